@@ -1,0 +1,15 @@
+pub mod Results
+pub mod Limits
+pub mod Marks
+pub mod Numbers
+pub mod Paths
+pub mod Powers
+pub mod Shapes
+pub mod Controls
+pub mod Templates
+pub mod Matchers
+pub mod Readings
+pub mod Deep
+pub mod Grammar
+pub mod Laws
+pub mod Worked
