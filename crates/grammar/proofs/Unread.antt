@@ -25,8 +25,16 @@ Raw = Repeats Itself
 
 abbrev pub unreadRepeat : TypedRepeat → RepeatOf (List ℕ)
 unreadRepeat x = record {
-  from = bits (x .from .0); to = bits (x .to .0); left = x .left; middleLeft = x .middle .left; middleRight = x .middle .right; right = x .right;
-  before = halve 124 (x .leftSep); between = halve 124 (x .middleSep); behind = halve 124 (x .rightSep) }
+  from = bits (x .from .0);
+  to = bits (x .to .0);
+  left = x .left;
+  middleLeft = x .middle .left;
+  middleRight = x .middle .right;
+  right = x .right;
+  before = halve 124 (x .leftSep);
+  between = halve 124 (x .middleSep);
+  behind = halve 124 (x .rightSep);
+}
 
 abbrev pub unreads : List Shape → List (Piece (RepeatOf (List ℕ)))
 unreads [] = []

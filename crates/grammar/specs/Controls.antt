@@ -44,7 +44,7 @@ Range = List ℕ × ChildIndex × ChildIndex
 abbrev pub rangeAt : ℕ → List ℕ → Result Range Fault
 rangeAt place cs =
     onSome (firstMark 46 46 0 cs) (refusal MissingRange place (length cs)) (λ at.
-      onOk (pathAt place (take at cs)) (λ p. onOk (indexAt (place + (at + 2)) (drop (at + 2) cs)) (λ to. Ok (take at cs, p .2, to))))
+    onOk (pathAt place (take at cs)) (λ p. onOk (indexAt (place + (at + 2)) (drop (at + 2) cs)) (λ to. Ok (take at cs, p .2, to))))
 
 -- left, middle and right separator as typed
 abbrev pub Parts : Type 0
@@ -73,7 +73,16 @@ repeatParts place cs dollar = cond (eqb dollar (length cs)) (Ok ([], [], [])) (s
 
 abbrev pub repeated : Range → Triple → Parts → Shape
 repeated r t s = typedRepeat (record {
-  path = r .0; from = r .1; to = r .2; left = t .0; middle = t .1; right = t .2; leftSep = s .0; middleSep = s .1; rightSep = s .2 })
+  path = r .0;
+  from = r .1;
+  to = r .2;
+  left = t .0;
+  middle = t .1;
+  right = t .2;
+  leftSep = s .0;
+  middleSep = s .1;
+  rightSep = s .2;
+})
 
 -- the front part of a repeat: range and powers
 abbrev pub frontAt : ℕ → List ℕ → Result (Range × Triple) Fault

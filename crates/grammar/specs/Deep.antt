@@ -48,8 +48,16 @@ separatorAt n side typed = onErr (λ e. carried (record { piece = n; side = side
 
 abbrev pub deeply : TypedRepeat → Separator → Separator → Separator → Repeat
 deeply x a b c = record {
-  from = bits (x .from .0); to = bits (x .to .0); left = x .left; middleLeft = x .middle .left; middleRight = x .middle .right; right = x .right;
-  before = a; between = b; behind = c }
+  from = bits (x .from .0);
+  to = bits (x .to .0);
+  left = x .left;
+  middleLeft = x .middle .left;
+  middleRight = x .middle .right;
+  right = x .right;
+  before = a;
+  between = b;
+  behind = c;
+}
 
 abbrev pub repeatFrom : ℕ → TypedRepeat → Result Repeat DeepFault
 repeatFrom n x =

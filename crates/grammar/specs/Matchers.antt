@@ -66,6 +66,6 @@ abbrev pub definitionAt : List ℕ → List ℕ → Result (Matched × Typed) (P
 definitionAt m t =
     cond (leb (length m) matcherLimit)
     (cond (leb (length t) templateLimit)
-      (onOk (onErr jointMatcher (matcherRead m)) (λ a. onOk (onErr jointFormatter (templateAt t)) (λ b. joined (length m) a b)))
-      (Err (jointFormatter (located TemplateTooLong 0 0))))
+    (onOk (onErr jointMatcher (matcherRead m)) (λ a. onOk (onErr jointFormatter (templateAt t)) (λ b. joined (length m) a b)))
+    (Err (jointFormatter (located TemplateTooLong 0 0))))
     (Err (jointMatcher (located MatcherTooLong 0 0)))

@@ -35,10 +35,10 @@ numberAt place (c ∷ []) =
 numberAt place (c ∷ d ∷ cs) =
     cond (eqb c 48) (refusal InvalidNumber place (length (c ∷ d ∷ cs)))
     (cond (eqb c 45)
-      (cond (eqb d 48)
-        (refusal InvalidNumber (place + 1) (length (d ∷ cs)))
-        (signedBy (λ n. negℤ (pos n)) (digitsFrom 2147483648 place (length (c ∷ d ∷ cs)) 0 (place + 1) (d ∷ cs))))
-      (signedBy pos (digitsFrom 2147483647 place (length (c ∷ d ∷ cs)) 0 place (c ∷ d ∷ cs))))
+    (cond (eqb d 48)
+    (refusal InvalidNumber (place + 1) (length (d ∷ cs)))
+    (signedBy (λ n. negℤ (pos n)) (digitsFrom 2147483648 place (length (c ∷ d ∷ cs)) 0 (place + 1) (d ∷ cs))))
+    (signedBy pos (digitsFrom 2147483647 place (length (c ∷ d ∷ cs)) 0 place (c ∷ d ∷ cs))))
 
 -- a number of 32 bits, by its two's complement
 abbrev pub bits : ℤ → ℕ

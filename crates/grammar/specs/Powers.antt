@@ -23,7 +23,7 @@ symmetric n = asymmetric n n
 abbrev pub secondPower : ℕ → ℕ → List ℕ → Result (Bool × BindPowerPair) Fault
 secondPower l place cs =
     onOk (powerAt place (take (upTo 44 cs) cs)) (λ r.
-      cond (eqb (upTo 44 cs) (length cs)) (Ok (true, asymmetric l r)) (refusal (TooManyControl Comma) (place + (upTo 44 cs + 1)) (length cs - (upTo 44 cs + 1))))
+    cond (eqb (upTo 44 cs) (length cs)) (Ok (true, asymmetric l r)) (refusal (TooManyControl Comma) (place + (upTo 44 cs + 1)) (length cs - (upTo 44 cs + 1))))
 
 -- `n` or `n,m`: whether two numbers stand there, and the pair
 abbrev pub pairAt : ℕ → List ℕ → Result (Bool × BindPowerPair) Fault
@@ -47,16 +47,16 @@ Triple = ℕ × BindPowerPair × ℕ
 abbrev pub behindSingle : ℕ → ℕ → List ℕ → Result Triple Fault
 behindSingle a place cs =
     onOk (pairAt place (take (upTo 124 cs) cs)) (λ p.
-      cond (eqb (upTo 124 cs) (length cs))
-      (cond (p .0) (Ok (a, p .1, 0)) (Ok (a, symmetric 0, p .1 .left)))
-      (onOk (lastField (place + (upTo 124 cs + 1)) (drop (upTo 124 cs + 1) cs)) (λ d. Ok (a, p .1, d))))
+    cond (eqb (upTo 124 cs) (length cs))
+    (cond (p .0) (Ok (a, p .1, 0)) (Ok (a, symmetric 0, p .1 .left)))
+    (onOk (lastField (place + (upTo 124 cs + 1)) (drop (upTo 124 cs + 1) cs)) (λ d. Ok (a, p .1, d))))
 
 -- the powers of a repeat, behind their first bar
 abbrev pub powersAt : ℕ → List ℕ → Result Triple Fault
 powersAt place cs =
     onOk (pairAt place (take (upTo 124 cs) cs)) (λ p.
-      cond (eqb (upTo 124 cs) (length cs))
-      (cond (p .0) (Ok (0, p .1, 0)) (Ok (p .1 .left, p .1, p .1 .left)))
-      (cond (p .0)
-        (onOk (lastField (place + (upTo 124 cs + 1)) (drop (upTo 124 cs + 1) cs)) (λ c. Ok (0, p .1, c)))
-        (behindSingle (p .1 .left) (place + (upTo 124 cs + 1)) (drop (upTo 124 cs + 1) cs))))
+    cond (eqb (upTo 124 cs) (length cs))
+    (cond (p .0) (Ok (0, p .1, 0)) (Ok (p .1 .left, p .1, p .1 .left)))
+    (cond (p .0)
+    (onOk (lastField (place + (upTo 124 cs + 1)) (drop (upTo 124 cs + 1) cs)) (λ c. Ok (0, p .1, c)))
+    (behindSingle (p .1 .left) (place + (upTo 124 cs + 1)) (drop (upTo 124 cs + 1) cs))))

@@ -42,7 +42,7 @@ leading place (c ∷ cs) = onOk (controlAt (place + 1) cs) (λ p. Ok (Some (p .0
 abbrev pub pieceAt : ℕ → List ℕ → Result (Option (Shape × ℕ)) Fault
 pieceAt place cs =
     onOk (leading (place + unpaired 36 cs) (drop (unpaired 36 cs) cs)) (λ next.
-      cond (eqb (unpaired 36 cs) 0) (Ok next) (Ok (Some (typedText (take (unpaired 36 cs) cs), unpaired 36 cs))))
+    cond (eqb (unpaired 36 cs) 0) (Ok next) (Ok (Some (typedText (take (unpaired 36 cs) cs), unpaired 36 cs))))
 
 -- the pieces, of which at most `left` may come
 abbrev pub bodyAt : ℕ → ℕ → List ℕ → Result (List Shape) Fault

@@ -40,7 +40,9 @@ pub struct ParseError<K> {
 // A kind of refusal: its number, its name and the layer that it belongs to.
 pub trait Refusal {
     ghost numbered: { Self → ℕ };
+
     ghost named: { Self → List ℕ };
+
     ghost within: { Self → Layer };
 
     fn number(&self) -> u8
@@ -112,7 +114,9 @@ pub enum FormatterError {
 
 pub impl Refusal for FormatterError as FormatterErrorRefusal {
     ghost numbered = { formatterNumber };
+
     ghost named = { formatterName };
+
     ghost within = { λ _. Template };
 
     fn number(&self) -> u8 {
@@ -163,7 +167,9 @@ pub enum MatcherError {
 
 pub impl Refusal for MatcherError as MatcherErrorRefusal {
     ghost numbered = { matcherNumber };
+
     ghost named = { matcherName };
+
     ghost within = { λ _. Matcher };
 
     fn number(&self) -> u8 {
@@ -195,7 +201,9 @@ pub enum EitherError {
 
 pub impl Refusal for EitherError as EitherErrorRefusal {
     ghost numbered = { eitherNumber };
+
     ghost named = { eitherName };
+
     ghost within = { eitherLayer };
 
     fn number(&self) -> u8 {
@@ -227,7 +235,11 @@ pub impl From<ParseError<FormatterError>> for ParseError<EitherError> as EitherF
     ghost converts = { λ e r. r ≡ jointFormatter e };
 
     fn from(e: ParseError<FormatterError>) -> ParseError<EitherError> {
-        ParseError { place: e.place, length: e.length, kind: EitherError::Formatter(e.kind) }
+        ParseError {
+            place: e.place,
+            length: e.length,
+            kind: EitherError::Formatter(e.kind),
+        }
     }
 }
 
@@ -235,7 +247,11 @@ pub impl From<ParseError<MatcherError>> for ParseError<EitherError> as EitherFro
     ghost converts = { λ e r. r ≡ jointMatcher e };
 
     fn from(e: ParseError<MatcherError>) -> ParseError<EitherError> {
-        ParseError { place: e.place, length: e.length, kind: EitherError::Matcher(e.kind) }
+        ParseError {
+            place: e.place,
+            length: e.length,
+            kind: EitherError::Matcher(e.kind),
+        }
     }
 }
 
@@ -276,7 +292,9 @@ pub enum DeepError {
 
 pub impl Refusal for DeepError as DeepErrorRefusal {
     ghost numbered = { deepNumber };
+
     ghost named = { deepName };
+
     ghost within = { λ _. Template };
 
     fn number(&self) -> u8 {
@@ -302,7 +320,11 @@ pub impl From<ParseError<FormatterError>> for ParseError<DeepError> as DeepFromF
     ghost converts = { λ e r. r ≡ ofTemplate e };
 
     fn from(e: ParseError<FormatterError>) -> ParseError<DeepError> {
-        ParseError { place: e.place, length: e.length, kind: DeepError::Formatter(e.kind) }
+        ParseError {
+            place: e.place,
+            length: e.length,
+            kind: DeepError::Formatter(e.kind),
+        }
     }
 }
 
@@ -311,6 +333,10 @@ pub impl From<InSeparator> for ParseError<DeepError> as DeepFromSeparator {
     ghost converts = { λ e r. r ≡ carried e };
 
     fn from(e: InSeparator) -> ParseError<DeepError> {
-        ParseError { place: e.fault.place, length: e.fault.length, kind: DeepError::Separator(e) }
+        ParseError {
+            place: e.fault.place,
+            length: e.fault.length,
+            kind: DeepError::Separator(e),
+        }
     }
 }
