@@ -10,8 +10,10 @@ mod powers;
 mod ranges;
 mod repeats;
 mod separators;
+mod steps;
 
 pub use control::parse_control;
 pub use defns_const::SubFormatterConst;
 pub use marks::unpaired;
 pub use numbers::parse_power;
+pub use steps::step_at;

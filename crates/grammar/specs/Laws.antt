@@ -12,3 +12,7 @@ use Rattle.grammar.specs.Readings.{Template}
 -- a template has a reading exactly where the reader answers it
 abbrev pub ReadAsTheGrammar : Type 0
 ReadAsTheGrammar = (cs : List ℕ) (r : Template) → (readingAt cs ≡ Ok r → Reads cs r × (limited r ≡ true)) × (Reads cs r × (limited r ≡ true) → readingAt cs ≡ Ok r)
+
+-- no template has two readings
+abbrev pub OneReading : Type 0
+OneReading = (cs : List ℕ) (r q : Template) → Reads cs r → Reads cs q → limited r ≡ true → limited q ≡ true → r ≡ q

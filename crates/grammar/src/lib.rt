@@ -8,4 +8,5 @@ pub use defns::BindPowerPairPartialEq;
 pub use defns::ChildIndex;
 pub use defns::ChildIndexDebug;
 pub use defns::ChildIndexPartialEq;
+pub use theorems::read_as_the_grammar;
 pub use theorems::worked_templates;
