@@ -105,13 +105,16 @@ mostBetween m (repeat s x ∷ ps) = mostBetween (mostIn m x) ps
 abbrev pub greatest : Template → Option ℕ
 greatest r = mostBetween (most None (r .pieces)) (r .pieces)
 
--- the limits on a reading: steps of each path, and pieces
+-- the limits on a reading: at most n steps in each path, and so many pieces
+abbrev pub withinBy : {R : Type 0} → ℕ → (R → Bool) → List (Piece R) → Bool
+withinBy n f [] = true
+withinBy n f (text b bs ∷ ps) = withinBy n f ps
+withinBy n f (child s i l r ∷ ps) = leb (length s) n && withinBy n f ps
+withinBy n f (capture k ∷ ps) = withinBy n f ps
+withinBy n f (repeat s x ∷ ps) = leb (length s) n && (f x && withinBy n f ps)
+
 abbrev pub within : {R : Type 0} → (R → Bool) → List (Piece R) → Bool
-within f [] = true
-within f (text b bs ∷ ps) = within f ps
-within f (child s i l r ∷ ps) = leb (length s) stepAllowance && within f ps
-within f (capture n ∷ ps) = within f ps
-within f (repeat s x ∷ ps) = leb (length s) stepAllowance && (f x && within f ps)
+within f ps = withinBy stepAllowance f ps
 
 abbrev pub limitedBy : {R : Type 0} → (R → Bool) → Reading R → Bool
 limitedBy f r = leb (length (r .pieces)) pieceAllowance && within f (r .pieces)

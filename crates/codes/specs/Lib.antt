@@ -1,0 +1,6 @@
+pub mod Formed
+pub mod Code
+pub mod Decode
+pub mod Written
+pub mod Acceptable
+pub mod Laws
