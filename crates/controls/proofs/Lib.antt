@@ -1,0 +1,5 @@
+pub mod Sequence
+pub mod MarkSteps
+pub mod DigitSteps
+pub mod PathSteps
+pub mod ControlSteps
