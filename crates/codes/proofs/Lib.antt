@@ -1,0 +1,14 @@
+pub mod Words
+pub mod Groups
+pub mod Runs
+pub mod Templates
+pub mod Whole
+pub mod Forward
+pub mod ClearRuns
+pub mod Bounds
+pub mod ReadBack
+pub mod Closing
+pub mod Clear
+pub mod Accepted
+pub mod WrittenBytes
+pub mod Trips

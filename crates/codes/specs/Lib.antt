@@ -3,4 +3,7 @@ pub mod Code
 pub mod Decode
 pub mod Written
 pub mod Acceptable
+pub mod Forward
 pub mod Laws
+pub mod Faults
+pub mod Calls

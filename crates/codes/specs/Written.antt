@@ -85,6 +85,3 @@ repeatBack s x = path s (x .from) ++ (46 ∷ 46 ∷ numeral (x .to) ++ (powersBa
 
 abbrev pub write : Template → List ℕ
 write r = writeBy repeatBack r
-
-abbrev pub Bounded : Type 0
-Bounded = (r : Template) → FormedTemplate r → length (write r) ≤ 4 * length (code r)

@@ -9,8 +9,13 @@ use std::fmt::Write;
 #[derive(Clone, Copy)]
 enum Call<'a> {
     Nothing,
-    Define { matcher: &'a [u8], template: &'a [u8] },
-    Fallback { template: &'a [u8] },
+    Define {
+        matcher: &'a [u8],
+        template: &'a [u8],
+    },
+    Fallback {
+        template: &'a [u8],
+    },
     Unknown,
 }
 
@@ -47,7 +52,10 @@ fn define(rest: &[u8]) -> Call<'_> {
     if at + 4 > rest.len() {
         return Call::Unknown;
     }
-    Call::Define { matcher: &rest[0..at], template: &rest[at + 4..] }
+    Call::Define {
+        matcher: &rest[0..at],
+        template: &rest[at + 4..],
+    }
 }
 
 fn call_of(line: &[u8]) -> Call<'_> {
@@ -67,10 +75,14 @@ fn call_of(line: &[u8]) -> Call<'_> {
 fn check_line(heap: Global, out: &mut String, line: &[u8]) -> Result<Option<bool>, AnyError> {
     match call_of(line) {
         Call::Nothing => Ok(None),
-        Call::Define { matcher, template } => Ok(Some(report::define(heap, out, matcher, template)?)),
+        Call::Define { matcher, template } => Ok(Some(
+            report::define(heap, out, matcher, template)?,
+        )),
         Call::Fallback { template } => Ok(Some(report::fallback(heap, out, template)?)),
         Call::Unknown => {
-            out.push_str("  refused: neither 'define MATCHER => TEMPLATE' nor 'fallback TEMPLATE'\n")?;
+            out.push_str(
+                "  refused: neither 'define MATCHER => TEMPLATE' nor 'fallback TEMPLATE'\n",
+            )?;
             Ok(Some(true))
         }
     }
@@ -97,7 +109,13 @@ fn line_end(page: &[u8], at: usize) -> usize
 }
 
 // Reports a line with its number, and counts its call.
-fn one_line(heap: Global, out: &mut String, tally: Tally, number: usize, line: &[u8]) -> Result<Tally, AnyError> {
+fn one_line(
+    heap: Global,
+    out: &mut String,
+    tally: Tally,
+    number: usize,
+    line: &[u8],
+) -> Result<Tally, AnyError> {
     let mut part = String::new(heap);
     let Some(refused) = check_line(heap, &mut part, line)? else {
         return Ok(tally);
@@ -110,7 +128,10 @@ fn one_line(heap: Global, out: &mut String, tally: Tally, number: usize, line: &
 // The report on a whole page.
 pub fn check_page(heap: Global, page: &[u8]) -> Result<String, AnyError> {
     let mut out = String::new(heap);
-    let mut tally = Tally { calls: 0, refused: 0 };
+    let mut tally = Tally {
+        calls: 0,
+        refused: 0,
+    };
     let mut at = 0;
     let mut number = 0usize;
     while at < page.len() {

@@ -1,12 +1,12 @@
-use crate::show::push_quoted;
 use crate::show::Shown;
-use controls::step_at;
+use crate::show::push_quoted;
 use controls::SubFormatterConst;
+use controls::step_at;
+use formatter::FallbackParseError;
+use formatter::Formatter;
 use formatter::halve;
 use formatter::parse_fallback;
 use formatter::parse_formatter;
-use formatter::FallbackParseError;
-use formatter::Formatter;
 use grammar::BindPowerPair;
 use grammar::ChildIndex;
 use matchers::MatcherConst;
@@ -22,10 +22,10 @@ use refusal::Refusal;
 use std::alloc::Global;
 use std::error::AnyError;
 use std::fmt::Write;
+use templates::FormatterConst;
 use templates::output_at;
 use templates::parse_definition;
 use templates::parse_template;
-use templates::FormatterConst;
 
 // The number of a line, and the line as typed.
 pub fn heading(out: &mut String, number: usize, line: &[u8]) -> Result<(), AnyError> {
@@ -36,7 +36,12 @@ pub fn heading(out: &mut String, number: usize, line: &[u8]) -> Result<(), AnyEr
 }
 
 // Reports a definition, and answers whether it is refused.
-pub fn define(heap: Global, out: &mut String, matcher: &[u8], template: &[u8]) -> Result<bool, AnyError> {
+pub fn define(
+    heap: Global,
+    out: &mut String,
+    matcher: &[u8],
+    template: &[u8],
+) -> Result<bool, AnyError> {
     match parse_definition(matcher, template) {
         Err(fault) => {
             push_either(out, matcher, template, fault)?;
@@ -75,7 +80,10 @@ pub fn fallback(heap: Global, out: &mut String, template: &[u8]) -> Result<bool,
             Ok(true)
         }
         Err(FallbackParseError::MaxCaptureTooLarge(n)) => {
-            writeln!(out, "  refused 15 MaxCaptureTooLarge: capture {n}, where only 0, the whole name, is known")?;
+            writeln!(
+                out,
+                "  refused 15 MaxCaptureTooLarge: capture {n}, where only 0, the whole name, is known"
+            )?;
             Ok(true)
         }
     }
@@ -84,8 +92,19 @@ pub fn fallback(heap: Global, out: &mut String, template: &[u8]) -> Result<bool,
 // ---- faults
 
 // Number, name, where, and the text with carets under the part.
-fn push_fault(out: &mut String, number: u8, name: &str, what: &str, text: &[u8], place: usize, length: usize) -> Result<(), AnyError> {
-    writeln!(out, "  refused {number} {name} in the {what} at {place}, length {length}")?;
+fn push_fault(
+    out: &mut String,
+    number: u8,
+    name: &str,
+    what: &str,
+    text: &[u8],
+    place: usize,
+    length: usize,
+) -> Result<(), AnyError> {
+    writeln!(
+        out,
+        "  refused {number} {name} in the {what} at {place}, length {length}"
+    )?;
     out.push_str("    ")?;
     let shown = Shown::new(text);
     shown.push(out)?;
@@ -111,21 +130,70 @@ fn push_mark(out: &mut String, kind: FormatterError) -> Result<(), AnyError> {
     Ok(())
 }
 
-fn push_formatter(out: &mut String, what: &str, text: &[u8], fault: ParseError<FormatterError>) -> Result<(), AnyError> {
-    push_fault(out, fault.kind.number(), fault.kind.name(), what, text, fault.place, fault.length)?;
+fn push_formatter(
+    out: &mut String,
+    what: &str,
+    text: &[u8],
+    fault: ParseError<FormatterError>,
+) -> Result<(), AnyError> {
+    push_fault(
+        out,
+        fault.kind.number(),
+        fault.kind.name(),
+        what,
+        text,
+        fault.place,
+        fault.length,
+    )?;
     push_mark(out, fault.kind)
 }
 
-fn push_either(out: &mut String, matcher: &[u8], template: &[u8], fault: ParseError<EitherError>) -> Result<(), AnyError> {
+fn push_either(
+    out: &mut String,
+    matcher: &[u8],
+    template: &[u8],
+    fault: ParseError<EitherError>,
+) -> Result<(), AnyError> {
     match fault.kind {
-        EitherError::Formatter(kind) => push_formatter(out, "template", template, ParseError { place: fault.place, length: fault.length, kind }),
-        _ => push_fault(out, fault.kind.number(), fault.kind.name(), "matcher", matcher, fault.place, fault.length),
+        EitherError::Formatter(kind) => push_formatter(
+            out,
+            "template",
+            template,
+            ParseError {
+                place: fault.place,
+                length: fault.length,
+                kind,
+            },
+        ),
+        _ => push_fault(
+            out,
+            fault.kind.number(),
+            fault.kind.name(),
+            "matcher",
+            matcher,
+            fault.place,
+            fault.length,
+        ),
     }
 }
 
-fn push_deep(heap: Global, out: &mut String, template: &[u8], fault: ParseError<DeepError>) -> Result<(), AnyError> {
+fn push_deep(
+    heap: Global,
+    out: &mut String,
+    template: &[u8],
+    fault: ParseError<DeepError>,
+) -> Result<(), AnyError> {
     match fault.kind {
-        DeepError::Formatter(kind) => push_formatter(out, "template", template, ParseError { place: fault.place, length: fault.length, kind }),
+        DeepError::Formatter(kind) => push_formatter(
+            out,
+            "template",
+            template,
+            ParseError {
+                place: fault.place,
+                length: fault.length,
+                kind,
+            },
+        ),
         DeepError::Separator(inner) => push_inner(heap, out, template, inner),
     }
 }
@@ -143,17 +211,30 @@ fn piece_of<'a>(read: FormatterConst<'a>, n: usize) -> Option<SubFormatterConst<
 
 // The separator as typed on a side of a repeat.
 fn side_of<'a>(piece: SubFormatterConst<'a>, inner: InSeparator) -> Option<&'a [u8]> {
-    let SubFormatterConst::Repeat { left_sep, middle_sep, right_sep, .. } = piece else {
+    let SubFormatterConst::Repeat {
+        left_sep,
+        middle_sep,
+        right_sep,
+        ..
+    } = piece
+    else {
         return None;
     };
-    Some(match inner.side {
-        refusal::Side::Left => left_sep,
-        refusal::Side::Middle => middle_sep,
-        refusal::Side::Right => right_sep,
-    })
+    Some(
+        match inner.side {
+            refusal::Side::Left => left_sep,
+            refusal::Side::Middle => middle_sep,
+            refusal::Side::Right => right_sep,
+        },
+    )
 }
 
-fn push_inner(heap: Global, out: &mut String, template: &[u8], inner: InSeparator) -> Result<(), AnyError> {
+fn push_inner(
+    heap: Global,
+    out: &mut String,
+    template: &[u8],
+    inner: InSeparator,
+) -> Result<(), AnyError> {
     let piece = inner.piece;
     let side = inner.side.name();
     let Ok(read) = parse_template(template) else {
@@ -165,8 +246,16 @@ fn push_inner(heap: Global, out: &mut String, template: &[u8], inner: InSeparato
     let Some(typed) = side_of(repeat, inner) else {
         return Ok(());
     };
-    writeln!(out, "  in the {side} separator of the repeat that is piece {piece}, its bars halved:")?;
-    push_formatter(out, "separator", halved(heap, typed, b'|')?.as_slice(), inner.fault)
+    writeln!(
+        out,
+        "  in the {side} separator of the repeat that is piece {piece}, its bars halved:"
+    )?;
+    push_formatter(
+        out,
+        "separator",
+        halved(heap, typed, b'|')?.as_slice(),
+        inner.fault,
+    )
 }
 
 // ---- readings
@@ -197,7 +286,10 @@ fn push_template(heap: Global, out: &mut String, read: Formatter) -> Result<(), 
     let left = read.parts.bind_power.left;
     let right = read.parts.bind_power.right;
     let pieces = read.parts.outputs;
-    writeln!(out, "  binds {left} on the left, {right} on the right; pieces: {pieces}")?;
+    writeln!(
+        out,
+        "  binds {left} on the left, {right} on the right; pieces: {pieces}"
+    )?;
     push_pieces(heap, out, read.parts)
 }
 
@@ -214,7 +306,17 @@ fn push_pieces(heap: Global, out: &mut String, read: FormatterConst) -> Result<(
 
 fn push_piece(heap: Global, out: &mut String, piece: SubFormatterConst) -> Result<(), AnyError> {
     match piece {
-        SubFormatterConst::Repeat { path, from, to, left, middle, right, left_sep, middle_sep, right_sep } => {
+        SubFormatterConst::Repeat {
+            path,
+            from,
+            to,
+            left,
+            middle,
+            right,
+            left_sep,
+            middle_sep,
+            right_sep,
+        } => {
             push_range(out, path, from, to)?;
             push_powers(out, left, middle, right)?;
             push_separator(heap, out, "left", left_sep)?;
@@ -231,7 +333,11 @@ fn push_plain(heap: Global, out: &mut String, piece: SubFormatterConst) -> Resul
             out.push_str("text ")?;
             push_quoted(out, halved(heap, text, b'$')?.as_slice())
         }
-        SubFormatterConst::Single { path, index, bind_power } => push_child(out, path, index, bind_power),
+        SubFormatterConst::Single {
+            path,
+            index,
+            bind_power,
+        } => push_child(out, path, index, bind_power),
         SubFormatterConst::Capture(n) => {
             write!(out, "capture {n}")?;
             Ok(())
@@ -253,7 +359,12 @@ fn push_path(out: &mut String, path: &[u8], index: ChildIndex) -> Result<(), Any
     Ok(())
 }
 
-fn push_child(out: &mut String, path: &[u8], index: ChildIndex, pair: BindPowerPair) -> Result<(), AnyError> {
+fn push_child(
+    out: &mut String,
+    path: &[u8],
+    index: ChildIndex,
+    pair: BindPowerPair,
+) -> Result<(), AnyError> {
     out.push_str("child ")?;
     push_path(out, path, index)?;
     let left = pair.left;
@@ -262,7 +373,12 @@ fn push_child(out: &mut String, path: &[u8], index: ChildIndex, pair: BindPowerP
     Ok(())
 }
 
-fn push_range(out: &mut String, path: &[u8], from: ChildIndex, to: ChildIndex) -> Result<(), AnyError> {
+fn push_range(
+    out: &mut String,
+    path: &[u8],
+    from: ChildIndex,
+    to: ChildIndex,
+) -> Result<(), AnyError> {
     out.push_str("children ")?;
     push_path(out, path, from)?;
     let last = to.0;
@@ -270,15 +386,28 @@ fn push_range(out: &mut String, path: &[u8], from: ChildIndex, to: ChildIndex) -
     Ok(())
 }
 
-fn push_powers(out: &mut String, left: u32, middle: BindPowerPair, right: u32) -> Result<(), AnyError> {
+fn push_powers(
+    out: &mut String,
+    left: u32,
+    middle: BindPowerPair,
+    right: u32,
+) -> Result<(), AnyError> {
     let a = middle.left;
     let b = middle.right;
-    write!(out, ", bound {left} before the first, {a} and {b} between, {right} behind the last")?;
+    write!(
+        out,
+        ", bound {left} before the first, {a} and {b} between, {right} behind the last"
+    )?;
     Ok(())
 }
 
 // A separator that was written: its text, and its pieces where it has others than one text.
-fn push_separator(heap: Global, out: &mut String, side: &str, typed: &[u8]) -> Result<(), AnyError> {
+fn push_separator(
+    heap: Global,
+    out: &mut String,
+    side: &str,
+    typed: &[u8],
+) -> Result<(), AnyError> {
     if typed.is_empty() {
         return Ok(());
     }

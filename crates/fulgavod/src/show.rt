@@ -28,12 +28,17 @@ fn columns(b: u8, plain: bool) -> usize {
 
 impl Shown<'_> {
     pub fn new(bytes: &[u8]) -> Shown<'_> {
-        Shown { bytes, plain: is_plain(bytes) }
+        Shown {
+            bytes,
+            plain: is_plain(bytes),
+        }
     }
 
     // Appends the text.
     pub fn push(&self, out: &mut String) -> Result<(), AnyError> {
-        if self.plain && let Ok(text) = str::from_utf8(self.bytes) {
+        if self.plain
+            && let Ok(text) = str::from_utf8(self.bytes)
+        {
             out.push_str(text)?;
             return Ok(());
         }
@@ -53,7 +58,12 @@ impl Shown<'_> {
     }
 
     // Appends a line with carets under the part; one caret where the part is empty.
-    pub fn push_carets(&self, out: &mut String, place: usize, length: usize) -> Result<(), AnyError> {
+    pub fn push_carets(
+        &self,
+        out: &mut String,
+        place: usize,
+        length: usize,
+    ) -> Result<(), AnyError> {
         let from = self.width(place);
         let to = self.width(place.saturating_add(length));
         for _ in 0..from {
