@@ -17,7 +17,7 @@ use Rattle.grammar.specs.Controls.{childPowers, childAt, captured, captureAt}
 use Rattle.grammar.specs.Grammar.{Path, Pair, ChildPowers, untyped, typed}
 use Rattle.grammar.specs.Limits.{stepAllowance}
 use Rattle.grammar.specs.Marks.{upTo}
-use Rattle.grammar.specs.Numbers.{numberAt, bits, numeral}
+use Rattle.grammar.specs.Numbers.{numberAt, bits, numeral, int}
 use Rattle.grammar.specs.Paths.{pathAt, stepsOf}
 use Rattle.grammar.specs.Powers.{asymmetric, symmetric, pairAt}
 use Rattle.grammar.specs.Readings.{Capture}
@@ -26,7 +26,7 @@ use Rattle.grammar.specs.Shapes.{Shape, typedChild, typedCapture}
 use Rattle.grammar.proofs.Bytes.{Each, Without, each-weaken, each-without, orb-right, without-append}
 use Rattle.grammar.proofs.Chains.{by-onOk, same-ok, refused}
 use Rattle.grammar.proofs.MarksFound.{Cut, whole, parted, cut, upTo-at, whole-test, whole-take, parted-test, parted-take, parted-drop}
-use Rattle.grammar.proofs.Numerals.{int, number-forth, number-back, numeral-without}
+use Rattle.grammar.proofs.Numerals.{number-forth, number-back, numeral-without}
 use Rattle.grammar.proofs.PathsRead.{isPath, path-without, path-forth, path-back}
 use Rattle.grammar.proofs.PowersRead.{isPair, isPowers, pair-forth, pair-back, pair-bytes}
 

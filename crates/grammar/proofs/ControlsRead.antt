@@ -18,7 +18,7 @@ use Rattle.grammar.specs.Controls.{childAt, repeatAt, captureAt, closedBy}
 use Rattle.grammar.specs.Grammar.{Path, ChildPowers, Control, isChild, isCapture, isRepeat}
 use Rattle.grammar.specs.Limits.{stepAllowance}
 use Rattle.grammar.specs.Marks.{firstMark, closes}
-use Rattle.grammar.specs.Numbers.{bits, numeral}
+use Rattle.grammar.specs.Numbers.{bits, numeral, int}
 use Rattle.grammar.specs.Paths.{stepsOf}
 use Rattle.grammar.specs.Powers.{asymmetric}
 use Rattle.grammar.specs.Readings.{Piece, child, capture, repeat, RepeatOf, Capture}
@@ -27,7 +27,7 @@ use Rattle.grammar.specs.Shapes.{Shape, typedChild, typedRepeat, typedCapture}
 use Rattle.grammar.proofs.Chains.{by-onOk, same-ok, refused}
 use Rattle.grammar.proofs.ChildrenRead.{child-forth, child-back, child-without, capture-forth, capture-back}
 use Rattle.grammar.proofs.MarksFound.{mark-found, take-front}
-use Rattle.grammar.proofs.Numerals.{int, bits-int, numeral-without}
+use Rattle.grammar.proofs.Numerals.{bits-int, numeral-without}
 use Rattle.grammar.proofs.Opens.{closing-found, closing-first}
 use Rattle.grammar.proofs.RepeatsRead.{mark-cut, repeat-forth, repeat-back, path-index}
 use Rattle.grammar.proofs.Unread.{Raw, unreadRepeat, unreads, stepped, ControlRead, ControlForth, ControlFound, ControlBack}

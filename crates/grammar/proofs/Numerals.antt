@@ -19,7 +19,7 @@ use Rattle.std.specs.declared.result.Result.{Result}
 use Rattle.std.specs.declared.result.Result.the-variants.{Ok, Err}
 use Rattle.refusal.specs.declared.error.FormatterError.the-variants.{InvalidNumber, NumberOutOfRange}
 use Rattle.grammar.specs.declared.defns.ChildIndex.{ChildIndex}
-use Rattle.grammar.specs.Numbers.{isDigit, digitsFrom, signedBy, numberAt, bits, numeral, power, powerAt}
+use Rattle.grammar.specs.Numbers.{isDigit, digitsFrom, signedBy, numberAt, bits, int, numeral, power, powerAt}
 use Rattle.grammar.specs.Paths.{isMax, indexAt}
 use Rattle.grammar.specs.Readings.{Power, Index}
 use Rattle.grammar.specs.Results.{onOk, refusal, Fault}
@@ -156,9 +156,6 @@ back place cs (negsuc m) e f =
     rw e (rw v at (down-ok place (decimal (suc m)) (decimal-some (suc m) big) (first-decimal (suc m) (omega arith) big) (digits-decimal own (suc m) big) (omega (arith, f .sfits, v))))
 
 -- ---- 32 bits
-abbrev pub int : ℕ → ℤ
-int n = cond (leb n 2147483647) (pos n) (negsuc (4294967295 - n))
-
 pub bits-int : (n : ℕ) → n < 4294967296 → bits (int n) ≡ n
 bits-int n h = go (leb n 2147483647) refl
   where

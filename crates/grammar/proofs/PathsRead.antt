@@ -13,13 +13,13 @@ use Rattle.refusal.specs.declared.error.FormatterError.the-variants.{MissingHas
 use Rattle.grammar.specs.declared.defns.ChildIndex.{ChildIndex}
 use Rattle.grammar.specs.Grammar.{Path, last, step}
 use Rattle.grammar.specs.Limits.{stepAllowance}
-use Rattle.grammar.specs.Numbers.{numberAt, bits, numeral}
+use Rattle.grammar.specs.Numbers.{numberAt, bits, numeral, int}
 use Rattle.grammar.specs.Paths.{indexAt, onFirst, splitOn, stepsFrom, pathAt, valueOf, stepValues, stepsOf}
 use Rattle.grammar.specs.Readings.{Index}
 use Rattle.grammar.specs.Results.{onOk, refusal, Fault}
 use Rattle.grammar.proofs.Bytes.{Each, Without, each-append, each-weaken, each-without, eqb-self, orb-right}
 use Rattle.grammar.proofs.Chains.{by-onOk, same-ok, refused}
-use Rattle.grammar.proofs.Numerals.{int, bits-int, number-back, index-forth, index-back, isNumeral, numeral-bytes, numeral-without}
+use Rattle.grammar.proofs.Numerals.{bits-int, number-back, index-forth, index-back, isNumeral, numeral-bytes, numeral-without}
 
 -- ---- parts
 pub some-part : (m : ℕ) (cs : List ℕ) → (p : List ℕ) × (ps : List (List ℕ)) × (splitOn m cs ≡ p ∷ ps)

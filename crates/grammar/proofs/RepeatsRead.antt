@@ -17,7 +17,7 @@ use Rattle.grammar.specs.Controls.{Range, rangeAt, repeatPowers, repeatParts, 
 use Rattle.grammar.specs.Grammar.{Path, Powers}
 use Rattle.grammar.specs.Limits.{stepAllowance}
 use Rattle.grammar.specs.Marks.{upTo, firstMark, halve, closes}
-use Rattle.grammar.specs.Numbers.{bits, numeral}
+use Rattle.grammar.specs.Numbers.{bits, numeral, int}
 use Rattle.grammar.specs.Paths.{indexAt, pathAt, stepsOf}
 use Rattle.grammar.specs.Powers.{Triple, symmetric, asymmetric, powersAt}
 use Rattle.grammar.specs.Readings.{Index, RepeatOf}
@@ -26,7 +26,7 @@ use Rattle.grammar.specs.Shapes.{TypedRepeat, Shape, typedRepeat}
 use Rattle.grammar.proofs.Bytes.{Without, without-append}
 use Rattle.grammar.proofs.Chains.{by-onOk, same-ok, refused}
 use Rattle.grammar.proofs.MarksFound.{mark-found, mark-stands, take-front, drop-front, drop-behind}
-use Rattle.grammar.proofs.Numerals.{int, bits-int, index-forth, index-back, numeral-without}
+use Rattle.grammar.proofs.Numerals.{bits-int, index-forth, index-back, numeral-without}
 use Rattle.grammar.proofs.PartsRead.{Starts, front-short, upTo-front, drop-upTo, parts-forth, parts-back, separators-start, SeparatorsRead}
 use Rattle.grammar.proofs.PathsRead.{path-forth, path-back, path-without}
 use Rattle.grammar.proofs.PowersRead.{powers-forth, powers-back, powers-without, PowersBegin, absent, barred, powers-begin}

@@ -45,6 +45,10 @@ abbrev pub bits : ℤ → ℕ
 bits (pos n) = n
 bits (negsuc n) = 4294967295 - n
 
+-- the number that 32 bits mean in two's complement
+abbrev pub int : ℕ → ℤ
+int n = cond (leb n 2147483647) (pos n) (negsuc (4294967295 - n))
+
 -- what is written of a number of 32 bits that is meant in two's complement
 abbrev pub numeral : ℕ → List ℕ
 numeral n = cond (leb n 2147483647) (decimal n) (45 ∷ decimal (4294967296 - n))
