@@ -114,7 +114,7 @@ fn parse_pieces(
     scratch: &mut [u8],
     most: Option<u32>,
 ) -> Result<Option<u32>, ParseError<DeepError>>
-    requires { ⌜ templateLimit ≤ length (now scratch) ⌝ ∗ ⌜ length (now text) ≤ templateLimit ⌝ ∗ ⌜ start ≤ length (now text) ⌝ }
+    requires { ⌜ templateLimit ≤ length (now scratch) ⌝ ∗ ⌜ length (now text) ≤ templateLimit ⌝ }
     requires read { ⌜ isOk (bodyAt pieceAllowance start (drop start (now text))) ≡ true ⌝ }
     ensures { λ r. ⌜ r ≡ betweenPieces most (bodyAt pieceAllowance start (drop start (now (text .entry)))) ⌝ }
 {
@@ -147,7 +147,7 @@ pub fn parse_fallback<'a>(text: &'a [u8]) -> Result<Formatter<'a>, FallbackParse
 {
     let formatter = parse_formatter(text)?;
     match formatter.max_capture {
-        Some(n) if n > 0 => Err(FallbackParseError::MaxCaptureTooLarge(n)),
-        _ => Ok(formatter),
+        None | Some(0) => Ok(formatter),
+        Some(n) => Err(FallbackParseError::MaxCaptureTooLarge(n)),
     }
 }

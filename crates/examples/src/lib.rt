@@ -1,0 +1,75 @@
+// Examples of what the readers answer, as tests.
+#[cfg(test)]
+mod tests {
+    use controls::step_at;
+    use controls::SubFormatterConst;
+    use formatter::halve;
+    use formatter::parse_fallback;
+    use formatter::parse_formatter;
+    use formatter::FallbackParseErrorDebug;
+    use grammar::ChildIndex;
+    use grammar::ChildIndexDebug;
+    use grammar::ChildIndexPartialEq;
+    use matchers::parse_matcher;
+    use refusal::ClosingMark;
+    use refusal::DeepErrorDebug;
+    use refusal::FormatterError;
+    use refusal::FormatterErrorDebug;
+    use refusal::FormatterErrorPartialEq;
+    use refusal::MatcherErrorDebug;
+    use refusal::ParseError;
+    use refusal::ParseErrorDebug;
+    use refusal::ParseErrorPartialEq;
+    use std::test::*;
+    use templates::output_at;
+    use templates::parse_template;
+
+    // The text K$$17 is shown as K$17.
+    #[test]
+    fn halves_marks() -> Result<(), Fail> {
+        let read = parse_formatter(b"K$$17")?;
+        check_eq(read.parts.outputs, 1)?;
+        let mut out = [0; 8];
+        check_eq(halve(read.parts.text, b'$', &mut out), Some(4))?;
+        check(out[1] == b'$' && out[2] == b'1')
+    }
+
+    // In a|||b|c the left separator is a|.
+    #[test]
+    fn parts_separators() -> Result<(), Fail> {
+        let read = parse_template(b"x$(#0..1$a|||b|c)$y")?;
+        match output_at(read.text, 1) {
+            Some((SubFormatterConst::Repeat { left_sep, middle_sep, right_sep, .. }, 17)) => check(left_sep == b"a||" && middle_sep == b"b" && right_sep == b"c"),
+            _ => Err(Fail::new("no repeat at place 1")),
+        }
+    }
+
+    #[test]
+    fn missing_dollar() -> Result<(), Fail> {
+        match parse_template(b"$") {
+            Err(fault) => check_eq(fault, ParseError { place: 1, length: 0, kind: FormatterError::MissingControl(ClosingMark::Dollar) }),
+            Ok(_) => Err(Fail::new("a lone dollar was accepted")),
+        }
+    }
+
+    #[test]
+    fn steps_of_a_path() -> Result<(), Fail> {
+        check_eq(step_at(b"#0:-1:7", 1), Some((ChildIndex(0), 3)))?;
+        check_eq(step_at(b"#0:-1:7", 3), Some((ChildIndex(-1), 6)))?;
+        check_eq(step_at(b"#0:-1:7", 6), None)
+    }
+
+    #[test]
+    fn counts_children() -> Result<(), Fail> {
+        let read = parse_matcher(b"(plus _ _)")?;
+        check_eq(read.children, Some(2))?;
+        check(read.data == b"plus")
+    }
+
+    #[test]
+    fn first_fallback() -> Result<(), Fail> {
+        let read = parse_fallback(b"$-1$${0}$$(#0..-1$(|, |))$$-1$")?;
+        check_eq(read.max_capture, Some(0))?;
+        check_eq(read.parts.bind_power.left, 4294967295)
+    }
+}

@@ -1,0 +1,11 @@
+pub mod Halving
+pub mod Captures
+pub mod Separators
+pub mod Between
+pub mod Walk
+pub mod Outputs
+pub mod Pieces
+pub mod Counting
+pub mod Framed
+pub mod Whole
+pub mod Accepting
