@@ -30,7 +30,7 @@ fn said(heap: Global, text: &str) -> Result<String, AnyError> {
     Ok(String::from_str(heap, text)?)
 }
 
-fn call(heap: Global, command: &str, a: &[u8], b: &[u8]) -> Result<String, AnyError> {
+fn call<'a>(heap: Global, command: &str, a: &'a [u8], b: &'a [u8]) -> Result<String, AnyError> {
     match command {
         "template" => template(heap, a),
         "formatter" => whole(heap, a),
@@ -87,7 +87,7 @@ fn push_matcher(out: &mut String, read: MatcherConst) -> Result<(), AnyError> {
     Ok(())
 }
 
-fn definition(heap: Global, matcher: &[u8], template: &[u8]) -> Result<String, AnyError> {
+fn definition<'a>(heap: Global, matcher: &'a [u8], template: &'a [u8]) -> Result<String, AnyError> {
     let mut out = String::new(heap);
     match parse_definition(matcher, template) {
         Ok(_) => out.push_str("ok")?,

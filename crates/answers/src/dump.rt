@@ -137,15 +137,20 @@ fn push_read_separator(
     write!(out, "{left}/{right}/")?;
     push_capture(out, read.max_capture)?;
     out.push('/')?;
-    let mut at = read.start;
-    while let Some((piece, used)) = output_at(read.text, at) {
-        if at > read.start {
+    push_plains(heap, out, read.text, read.start)
+}
+
+// The pieces of a separator, parted by commas, `~` for none.
+fn push_plains(heap: Global, out: &mut String, text: &[u8], start: usize) -> Result<(), AnyError> {
+    let mut at = start;
+    while let Some((piece, used)) = output_at(text, at) {
+        if at > start {
             out.push(',')?;
         }
         push_plain(heap, out, piece)?;
         at += used;
     }
-    if at == read.start {
+    if at == start {
         out.push('~')?;
     }
     Ok(())

@@ -1,12 +1,12 @@
 // Examples of what the readers answer, as tests.
 #[cfg(test)]
 mod tests {
-    use controls::step_at;
     use controls::SubFormatterConst;
+    use controls::step_at;
+    use formatter::FallbackParseErrorDebug;
     use formatter::halve;
     use formatter::parse_fallback;
     use formatter::parse_formatter;
-    use formatter::FallbackParseErrorDebug;
     use grammar::ChildIndex;
     use grammar::ChildIndexDebug;
     use grammar::ChildIndexPartialEq;
@@ -39,7 +39,17 @@ mod tests {
     fn parts_separators() -> Result<(), Fail> {
         let read = parse_template(b"x$(#0..1$a|||b|c)$y")?;
         match output_at(read.text, 1) {
-            Some((SubFormatterConst::Repeat { left_sep, middle_sep, right_sep, .. }, 17)) => check(left_sep == b"a||" && middle_sep == b"b" && right_sep == b"c"),
+            Some(
+                (
+                    SubFormatterConst::Repeat {
+                        left_sep,
+                        middle_sep,
+                        right_sep,
+                        ..
+                    },
+                    17,
+                ),
+            ) => check(left_sep == b"a||" && middle_sep == b"b" && right_sep == b"c"),
             _ => Err(Fail::new("no repeat at place 1")),
         }
     }
@@ -47,7 +57,14 @@ mod tests {
     #[test]
     fn missing_dollar() -> Result<(), Fail> {
         match parse_template(b"$") {
-            Err(fault) => check_eq(fault, ParseError { place: 1, length: 0, kind: FormatterError::MissingControl(ClosingMark::Dollar) }),
+            Err(fault) => check_eq(
+                fault,
+                ParseError {
+                    place: 1,
+                    length: 0,
+                    kind: FormatterError::MissingControl(ClosingMark::Dollar),
+                },
+            ),
             Ok(_) => Err(Fail::new("a lone dollar was accepted")),
         }
     }

@@ -1,5 +1,6 @@
-ghost use Prim.Native.Nat.{_≤_};
+ghost use Prim.Native.Nat.{_+_, _≤_};
 ghost use lib.ListN.{length};
+ghost use Rattle.std.specs.Options.{Cases as BySome};
 use crate::report;
 use std::alloc::Global;
 use std::error::AnyError;
@@ -36,9 +37,11 @@ fn behind<'a>(line: &'a [u8], word: &[u8]) -> Option<&'a [u8]> {
 }
 
 // The place of the first ` => `.
-fn arrow(text: &[u8]) -> Option<usize> {
-    for (i, part) in text.windows(4).enumerate() {
-        if part == b" => " {
+fn arrow(text: &[u8]) -> Option<usize>
+    ensures { λ r. ⌜ BySome r (0 ≤ 0) (λ at. at + 4 ≤ length (now (text .entry))) ⌝ }
+{
+    for i in 0..text.len() {
+        if text.len() - i >= 4 && &text[i..i + 4] == b" => " {
             return Some(i);
         }
     }
@@ -49,9 +52,6 @@ fn define(rest: &[u8]) -> Call<'_> {
     let Some(at) = arrow(rest) else {
         return Call::Unknown;
     };
-    if at + 4 > rest.len() {
-        return Call::Unknown;
-    }
     Call::Define {
         matcher: &rest[0..at],
         template: &rest[at + 4..],

@@ -36,11 +36,11 @@ pub fn heading(out: &mut String, number: usize, line: &[u8]) -> Result<(), AnyEr
 }
 
 // Reports a definition, and answers whether it is refused.
-pub fn define(
+pub fn define<'a>(
     heap: Global,
     out: &mut String,
-    matcher: &[u8],
-    template: &[u8],
+    matcher: &'a [u8],
+    template: &'a [u8],
 ) -> Result<bool, AnyError> {
     match parse_definition(matcher, template) {
         Err(fault) => {
@@ -290,16 +290,16 @@ fn push_template(heap: Global, out: &mut String, read: Formatter) -> Result<(), 
         out,
         "  binds {left} on the left, {right} on the right; pieces: {pieces}"
     )?;
-    push_pieces(heap, out, read.parts)
+    push_pieces(heap, out, read.parts.text, read.parts.start)
 }
 
-fn push_pieces(heap: Global, out: &mut String, read: FormatterConst) -> Result<(), AnyError> {
-    let mut at = read.start;
-    while let Some((piece, used)) = output_at(read.text, at) {
+fn push_pieces(heap: Global, out: &mut String, text: &[u8], start: usize) -> Result<(), AnyError> {
+    let mut at = start;
+    while let Some((piece, used)) = output_at(text, at) {
         out.push_str("    ")?;
         push_piece(heap, out, piece)?;
         out.push('\n')?;
-        at = at.saturating_add(used);
+        at += used;
     }
     Ok(())
 }
@@ -414,21 +414,21 @@ fn push_separator(
     write!(out, "\n      {side} separator: ")?;
     let bytes = halved(heap, typed, b'|')?;
     match parse_template(bytes.as_slice()) {
-        Ok(read) => push_inside(heap, out, read),
+        Ok(read) => push_inside(heap, out, read.text, read.start),
         Err(_) => Ok(()),
     }
 }
 
-fn push_inside(heap: Global, out: &mut String, read: FormatterConst) -> Result<(), AnyError> {
-    let mut at = read.start;
-    while let Some((piece, used)) = output_at(read.text, at) {
-        if at > read.start {
+fn push_inside(heap: Global, out: &mut String, text: &[u8], start: usize) -> Result<(), AnyError> {
+    let mut at = start;
+    while let Some((piece, used)) = output_at(text, at) {
+        if at > start {
             out.push_str(", ")?;
         }
         push_plain(heap, out, piece)?;
-        at = at.saturating_add(used);
+        at += used;
     }
-    if at == read.start {
+    if at == start {
         out.push_str("nothing")?;
     }
     Ok(())
