@@ -119,7 +119,7 @@ fn push_mark(out: &mut String, kind: FormatterError) -> Result<(), AnyError> {
     match kind {
         FormatterError::MissingControl(mark) => {
             let text = mark.text();
-            writeln!(out, "    '{text}' is missing behind it")?;
+            writeln!(out, "    the '{text}' that goes with it is missing")?;
         }
         FormatterError::TooManyControl(mark) => {
             let text = mark.text();
@@ -145,7 +145,22 @@ fn push_formatter(
         fault.place,
         fault.length,
     )?;
-    push_mark(out, fault.kind)
+    push_mark(out, fault.kind)?;
+    push_hint(out, text, fault.place)
+}
+
+// A control that stands first or last is taken for a prefix or a suffix, which a newcomer does not expect.
+fn push_hint(out: &mut String, text: &[u8], place: usize) -> Result<(), AnyError> {
+    let first = text.starts_with(b"$[") || text.starts_with(b"$(") || text.starts_with(b"${");
+    let last = text.ends_with(b"]$") || text.ends_with(b")$") || text.ends_with(b"}$");
+    if place == 1 && first {
+        out.push_str(
+            "    a template that begins with a control wants a prefix before it, as $0$\n",
+        )?;
+    } else if place > 1 && last {
+        out.push_str("    a template that ends in a control wants a suffix behind it, as $0$\n")?;
+    }
+    Ok(())
 }
 
 fn push_either(
