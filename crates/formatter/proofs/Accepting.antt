@@ -1,21 +1,26 @@
 -- What is answered is the reading that the grammar and the limits give.
 use mathlib.Core.Path.{_≡_, sym, ap, subst, _∙_}
 use mathlib.Core.List.{List, []}
+use mathlib.Core.Bool.{Bool, true, false, cond}
 use Prim.Native.Nat.{ℕ}
+use native.Mathlib.Omega.{arith}
+use lib.Dec.{leb}
+use Rattle.std.proofs.shelf.Ways.{tells}
 use lib.ListN.{length, drop}
 use Rattle.std.specs.declared.option.Option.{Option}
 use Rattle.std.specs.declared.result.Result.{Result}
 use Rattle.std.specs.declared.result.Result.the-variants.{Ok, Err}
 use Rattle.refusal.specs.Refusals.{ofTemplate}
-use Rattle.grammar.specs.Deep.{DeepFault, deepFrom, deepened, readingAt, greatest}
-use Rattle.grammar.specs.Limits.{pieceAllowance}
+use Rattle.grammar.specs.Deep.{DeepFault, deepFrom, deepened, readingAt, deepAt, greatest}
+use Rattle.grammar.specs.Limits.{pieceAllowance, templateLimit}
 use Rattle.grammar.specs.Readings.{Piece, Repeat, Template}
-use Rattle.grammar.specs.Results.{onOk, onErr}
+use Rattle.grammar.specs.Results.{onOk, onErr, located, refusal, Fault}
+use Rattle.refusal.specs.declared.error.FormatterError.the-variants.{TemplateTooLong}
 use Rattle.grammar.specs.Templates.{Typed, bodyAt, templateAt, formatterAt}
 use Rattle.grammar.proofs.Chains.{by-onOk, by-onErr, same-ok, refused}
 use Rattle.grammar.proofs.Readers.{read-as-the-grammar}
 use Rattle.templates.specs.Views.{Summary, summary, seen}
-use Rattle.formatter.specs.Reading.{Accepted, okOr, piecesFrom, readingOf, Answered, ReadAs}
+use Rattle.formatter.specs.Reading.{Accepted, okOr, piecesFrom, readingOf, Answered, ReadAs, wholeReading}
 use Rattle.formatter.specs.Views.{deepSummary, formatterRead, answered, seenFormatter}
 use Rattle.formatter.specs.declared.defns.Formatter.{Formatter}
 use Rattle.formatter.proofs.Counting.{as-many}
@@ -95,3 +100,31 @@ read-as cs r e = record {
   accepted = λ f h. answered-by cs f (answers cs f (sym e ∙ ap seenFormatter h));
   refused = λ x h t a. none-accepted cs x t (sym e ∙ ap seenFormatter h) a;
 }
+
+-- ---- the answer is that of the whole reading
+fails-then : {B C E : Type 0} (m : Result B E) (s : B → C) (x : E) → onOk m (λ r. Ok (s r)) ≡ Err x → m ≡ Err x
+fails-then (Ok r) s x e = refused x (s r) (sym e)
+fails-then (Err y) s x e = let h : y ≡ x = cc in ap (λ z. Err z) h
+
+fails-first : {A B C E : Type 0} (m : Result A E) (d : A → Result B E) (s : A → B → C) (x : E) → onOk m (λ t. onOk (d t) (λ r. Ok (s t r))) ≡ Err x → onOk m d ≡ Err x
+fails-first (Err y) d s x e = let h : y ≡ x = cc in ap (λ z. Err z) h
+fails-first (Ok t) d s x e = fails-then (d t) (s t) x e
+
+-- the two definitions, by whether the template is short enough
+abbrev readBy : Bool → List ℕ → Result (Summary × Option ℕ) DeepFault
+readBy b cs = onOk (onErr ofTemplate (cond b (templateAt cs) (refusal TemplateTooLong 0 0))) (deepSummary cs)
+
+abbrev deepBy : Bool → List ℕ → Result Template DeepFault
+deepBy b cs = cond b (readingAt cs) (Err (ofTemplate (located TemplateTooLong 0 0)))
+
+fails-by : (b : Bool) (cs : List ℕ) (x : DeepFault) → readBy b cs ≡ Err x → deepBy b cs ≡ Err x
+fails-by true cs x h = fails-first (onErr ofTemplate (templateAt cs)) deepened (λ t r. (summary cs t, greatest r)) x h
+fails-by false cs x h = let s : ofTemplate (located TemplateTooLong 0 0) ≡ x = cc in ap (λ z. Err z) s
+
+pub whole-reading : (cs : List ℕ) (r : Result Formatter DeepFault) → seenFormatter r ≡ formatterRead cs → wholeReading r ≡ deepAt cs
+whole-reading cs (Err x) e = sym (fails-by (leb (length cs) templateLimit) cs x (sym e))
+whole-reading cs (Ok f) e =
+    let a = answers cs f (sym e) in
+    let short = taken cs (a .typed) (a .found) .short in
+    let yes-it : leb (length cs) templateLimit ≡ true = grind (arith, tells) in
+    sym (ap (λ b. deepBy b cs) yes-it ∙ read cs f a ∙ ap (λ (r : Template). Ok r) (reading-is cs f a))

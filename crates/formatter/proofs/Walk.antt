@@ -17,6 +17,8 @@ use Rattle.grammar.specs.Marks.{unpaired}
 use Rattle.grammar.specs.Results.{onOk, Fault}
 use Rattle.grammar.specs.Shapes.{Shape, typedText}
 use Rattle.grammar.specs.Templates.{leading, pieceAt, bodyAt}
+use Rattle.grammar.proofs.Chains.{by-onOk, same-ok}
+use Rattle.formatter.specs.Reading.{Walked, over, goes, OutputsWalk}
 use Rattle.templates.specs.Views.{controlFirst, okay, outputAt}
 
 failed : {P : Type 0} → false ≡ true → P
@@ -73,3 +75,29 @@ pub body-full : (place : ℕ) (cs : List ℕ) (s : Shape) (u : ℕ) → isOk (bo
 body-full place cs s u h e =
     let p = piece-is place cs (starts (pieceAt place cs) _ h) in
     failed (rw (p, e) at h)
+
+-- ---- a walk meets the pieces
+ok : {A E : Type 0} (m : Result A E) (x : A) → m ≡ Ok x → isOk m ≡ true
+ok m x e = ap isOk e
+
+none-left : (place : ℕ) (cs : List ℕ) (ss : List Shape) → outputAt place cs ≡ None → [] ≡ ss → Walked place cs ss
+none-left place cs ss o e = rw (← e) (over o)
+
+walks-by : (left : ℕ) → ((place : ℕ) (cs : List ℕ) (ss : List Shape) → bodyAt left place cs ≡ Ok ss → Walked place cs ss) → (place : ℕ) (cs : List ℕ) (ss : List Shape) → bodyAt (suc left) place cs ≡ Ok ss → Walked place cs ss
+walks-by left ih place cs ss e = go (outputAt place cs) refl
+  where
+    go : (o : Option (Shape × ℕ)) → outputAt place cs ≡ o → Walked place cs ss
+    go None h = none-left place cs ss h (same-ok [] ss (sym (body-over (suc left) place cs (ok (bodyAt (suc left) place cs) ss e) h) ∙ e))
+    go (Some p) h =
+        let b = body-goes left place cs (p .0) (p .1) (ok (bodyAt (suc left) place cs) ss e) h in
+        let t = by-onOk (bodyAt left (place + p .1) (drop (p .1) cs)) (λ ss. Ok (p .0 ∷ ss)) ss (sym b ∙ e) in
+        let same = same-ok (p .0 ∷ t .0) ss (t .2) in
+        rw (← same) (goes h (ih (place + p .1) (drop (p .1) cs) (t .0) (t .1)))
+
+pub outputs-walk : OutputsWalk
+outputs-walk zero place cs ss e = go (outputAt place cs) refl
+  where
+    go : (o : Option (Shape × ℕ)) → outputAt place cs ≡ o → Walked place cs ss
+    go None h = none-left place cs ss h (same-ok [] ss (sym (body-over zero place cs (ok (bodyAt zero place cs) ss e) h) ∙ e))
+    go (Some p) h = absurd (body-full place cs (p .0) (p .1) (ok (bodyAt zero place cs) ss e) h)
+outputs-walk (suc left) place cs ss e = walks-by left (outputs-walk left) place cs ss e

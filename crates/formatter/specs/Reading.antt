@@ -2,8 +2,9 @@
 use mathlib.Core.Path.{_≡_}
 use mathlib.Core.List.{List, [], _∷_}
 use mathlib.Core.Bool.{Bool, true, false, cond}
-use Prim.Native.Nat.{ℕ, _≤_}
+use Prim.Native.Nat.{ℕ, _+_, _≤_}
 use lib.ListN.{length, drop}
+use Rattle.std.specs.declared.option.Option.the-variants.{Some, None}
 use Rattle.std.specs.declared.result.Result.{Result}
 use Rattle.std.specs.declared.result.Result.the-variants.{Ok, Err}
 use Rattle.formatter.specs.declared.defns.Formatter.{Formatter}
@@ -14,6 +15,7 @@ use Rattle.grammar.specs.Readings.{Piece, Reading, Repeat, Template}
 use Rattle.grammar.specs.Results.{onOk, Fault}
 use Rattle.grammar.specs.Shapes.{Shape}
 use Rattle.grammar.specs.Templates.{bodyAt}
+use Rattle.templates.specs.Views.{outputAt}
 
 -- the grammar and the limits give the template this reading
 pub record Accepted (cs : List ℕ) (r : Template) : Type 0 where
@@ -42,3 +44,17 @@ pub record Answered (cs : List ℕ) (f : Formatter) : Type 0 where
 pub record ReadAs (cs : List ℕ) (r : Result Formatter DeepFault) : Type 0 where
   pub accepted : (f : Formatter) → r ≡ Ok f → Answered cs f
   pub refused : (e : DeepFault) → r ≡ Err e → (t : Template) → Accepted cs t → ⊥
+
+-- the answer as a reading, or the fault as it is
+abbrev pub wholeReading : Result Formatter DeepFault → Result Template DeepFault
+wholeReading (Ok f) = Ok (readingOf f)
+wholeReading (Err e) = Err e
+
+-- the pieces that are met on a walk from a place on, each as long as it is said to be
+pub data Walked : ℕ → List ℕ → List Shape → Type 0 where
+  over : {place : ℕ} {cs : List ℕ} → outputAt place cs ≡ None → Walked place cs []
+  goes : {place : ℕ} {cs : List ℕ} {s : Shape} {n : ℕ} {ss : List Shape} → outputAt place cs ≡ Some (s, n) → Walked (place + n) (drop n cs) ss → Walked place cs (s ∷ ss)
+
+-- a walk over a body meets its pieces
+abbrev pub OutputsWalk : Type 0
+OutputsWalk = (left place : ℕ) (cs : List ℕ) (ss : List Shape) → bodyAt left place cs ≡ Ok ss → Walked place cs ss

@@ -8,7 +8,8 @@ ghost use mathlib.Core.Bool.{true};
 ghost use Rattle.controls.specs.Views.{shape};
 ghost use Rattle.formatter.specs.Fallbacks.{fallbackRead, seenFallback};
 ghost use Rattle.formatter.specs.Views.{greaterOf, inSeparator, onSide, inRepeat, inPiece, Short, betweenPieces, formatterRead, seenFormatter};
-ghost use Rattle.formatter.specs.Reading.{ReadAs};
+ghost use Rattle.formatter.specs.Reading.{ReadAs, OutputsWalk, wholeReading};
+ghost use Rattle.grammar.specs.Deep.{deepAt};
 use crate::defns::Formatter;
 use crate::error::FallbackFromFormatter;
 use crate::error::FallbackParseError;
@@ -133,7 +134,9 @@ fn parse_pieces(
 // reading, which is then its only one.
 pub fn parse_formatter<'a>(text: &'a [u8]) -> Result<Formatter<'a>, ParseError<DeepError>>
     ensures exact { λ r. ⌜ seenFormatter r ≡ formatterRead (now (text .entry)) ⌝ }
+    ensures whole { λ r. ⌜ wholeReading r ≡ deepAt (now (text .entry)) ⌝ }
     ensures reading { λ r. ⌜ ReadAs (now (text .entry)) r ⌝ }
+    ensures walk { λ _. ⌜ OutputsWalk ⌝ }
 {
     let parts = parse_template(text)?;
     let mut scratch = [0; 4096];

@@ -1,4 +1,4 @@
--- The limits of what is read. Each stands here and nowhere else.
+-- The limits of what is read, for all definitions.
 use Prim.Native.Nat.{ℕ}
 
 -- the steps that a path may have before its index
