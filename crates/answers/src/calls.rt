@@ -3,6 +3,7 @@ use crate::dump::Form;
 use crate::faults;
 use crate::hex::push_hex;
 use crate::hex::unhex;
+use encode::encode;
 use formatter::parse_fallback;
 use formatter::parse_formatter;
 use matchers::MatcherConst;
@@ -13,6 +14,7 @@ use std::error::AnyError;
 use std::fmt::Write;
 use templates::parse_definition;
 use templates::parse_template;
+use written::write_back;
 
 // The answer to a line.
 pub fn answer(heap: Global, line: &str) -> Result<String, AnyError> {
@@ -37,6 +39,8 @@ fn call<'a>(heap: Global, command: &str, a: &'a [u8], b: &'a [u8]) -> Result<Str
         "matcher" => matcher(heap, a),
         "definition" => definition(heap, a, b),
         "fallback" => fallback(heap, a),
+        "code" => code(heap, a),
+        "decode" => decode(heap, a),
         _ => said(heap, "bad command"),
     }
 }
@@ -104,6 +108,35 @@ fn fallback(heap: Global, text: &[u8]) -> Result<String, AnyError> {
             dump::push_capture(&mut out, read.max_capture)?;
         }
         Err(fault) => faults::push_fallback(&mut out, fault)?,
+    }
+    Ok(out)
+}
+
+// What was written into a buffer.
+fn push_front(out: &mut String, buffer: &[u8], size: usize) -> Result<(), AnyError> {
+    out.push_str("ok ")?;
+    if size <= buffer.len() {
+        push_hex(out, &buffer[0..size])?;
+    }
+    Ok(())
+}
+
+fn code(heap: Global, template: &[u8]) -> Result<String, AnyError> {
+    let mut out = String::new(heap);
+    let mut buffer = [0u8; 1024];
+    match encode(template, &mut buffer) {
+        Ok(size) => push_front(&mut out, &buffer, size)?,
+        Err(fault) => faults::push_encode(&mut out, fault)?,
+    }
+    Ok(out)
+}
+
+fn decode(heap: Global, bytes: &[u8]) -> Result<String, AnyError> {
+    let mut out = String::new(heap);
+    let mut buffer = [0u8; 4096];
+    match write_back(bytes, &mut buffer) {
+        Ok(size) => push_front(&mut out, &buffer, size)?,
+        Err(fault) => faults::push_code(&mut out, fault)?,
     }
     Ok(out)
 }

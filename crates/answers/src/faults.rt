@@ -1,4 +1,7 @@
 use crate::hex::push_hex;
+use codes::CodeError;
+use codes::CodeErrorRefusal;
+use codes::EncodeError;
 use formatter::FallbackParseError;
 use refusal::DeepError;
 use refusal::EitherError;
@@ -100,5 +103,18 @@ pub fn push_fallback(out: &mut String, fault: FallbackParseError) -> Result<(), 
             Ok(())
         }
         FallbackParseError::FormatterParseError(e) => push_deep(out, e),
+    }
+}
+
+pub fn push_code(out: &mut String, fault: CodeError) -> Result<(), AnyError> {
+    let number = fault.number();
+    write!(out, "err {number} 0 0 -")?;
+    Ok(())
+}
+
+pub fn push_encode(out: &mut String, fault: EncodeError) -> Result<(), AnyError> {
+    match fault {
+        EncodeError::Formatter(e) => push_deep(out, e),
+        EncodeError::Code(e) => push_code(out, e),
     }
 }

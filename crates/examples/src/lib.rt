@@ -1,8 +1,14 @@
 // Examples of what the readers answer, as tests.
 #[cfg(test)]
 mod tests {
+    use codes::CodeError;
+    use codes::CodeErrorDebug;
+    use codes::CodeErrorPartialEq;
+    use codes::EncodeErrorDebug;
     use controls::SubFormatterConst;
     use controls::step_at;
+    use decode::check_code;
+    use encode::encode;
     use formatter::FallbackParseErrorDebug;
     use formatter::halve;
     use formatter::parse_fallback;
@@ -23,6 +29,7 @@ mod tests {
     use std::test::*;
     use templates::output_at;
     use templates::parse_template;
+    use written::write_back;
 
     // The text K$$17 is shown as K$17.
     #[test]
@@ -88,5 +95,35 @@ mod tests {
         let read = parse_fallback(b"$-1$${0}$$(#0..-1$(|, |))$$-1$")?;
         check_eq(read.max_capture, Some(0))?;
         check_eq(read.parts.bind_power.left, 4294967295)
+    }
+
+    // The code of a$$$[#0]$b has 29 bytes; the buffer's last byte stays.
+    #[test]
+    fn worked_code() -> Result<(), Fail> {
+        let mut code = [7; 30];
+        check_eq(encode(b"a$$$[#0]$b", &mut code)?, 29)?;
+        check(code[10] == 97 && code[12] == 36 && code[28] == 0 && code[29] == 7)?;
+        check(check_code(&code[0..29]).is_ok() && check_code(&code[0..28]).is_err())
+    }
+
+    // The code of the text `$` is written back with prefix and suffix.
+    #[test]
+    fn written_back() -> Result<(), Fail> {
+        let mut out = [7; 9];
+        check_eq(
+            write_back(&[1, 0, 0, 0, 0, 0, 0, 0, 0, 2, 36, 0], &mut out),
+            Ok(8),
+        )?;
+        check(out == *b"$0$$$$0$\x07")
+    }
+
+    #[test]
+    fn short_buffer_stays() -> Result<(), Fail> {
+        let mut out = [7; 7];
+        check_eq(
+            write_back(&[1, 0, 0, 0, 0, 0, 0, 0, 0, 2, 36, 0], &mut out),
+            Err(CodeError::BufferTooShort),
+        )?;
+        check(out == [7; 7])
     }
 }

@@ -20,11 +20,19 @@ enum Call<'a> {
     Unknown,
 }
 
-// How many calls a page had, and how many were refused.
-#[derive(Clone, Copy)]
+// An accepted line, and the code of its template.
+#[derive(Drop)]
+struct Stored {
+    line: usize,
+    code: Vec<u8>,
+}
+
+// How many calls a page had, how many were refused, and the codes of the others.
+#[derive(Drop)]
 struct Tally {
     calls: usize,
     refused: usize,
+    codes: Vec<Stored>,
 }
 
 // What stands behind a word at the beginning of a line.
@@ -71,27 +79,35 @@ fn call_of(line: &[u8]) -> Call<'_> {
     Call::Unknown
 }
 
-// Reports one line, and answers whether its call was refused; none where it has no call.
-fn check_line(heap: Global, out: &mut String, line: &[u8]) -> Result<Option<bool>, AnyError> {
+// What became of a line: no call, a refusal, or a template with its code.
+#[derive(Drop)]
+enum Outcome {
+    NoCall,
+    Refused,
+    Read(Vec<u8>),
+}
+
+fn outcome(code: Option<Vec<u8>>) -> Outcome {
+    match code {
+        Some(code) => Outcome::Read(code),
+        None => Outcome::Refused,
+    }
+}
+
+// Reports one line.
+fn check_line(heap: Global, out: &mut String, line: &[u8]) -> Result<Outcome, AnyError> {
     match call_of(line) {
-        Call::Nothing => Ok(None),
-        Call::Define { matcher, template } => Ok(Some(
+        Call::Nothing => Ok(Outcome::NoCall),
+        Call::Define { matcher, template } => Ok(outcome(
             report::define(heap, out, matcher, template)?,
         )),
-        Call::Fallback { template } => Ok(Some(report::fallback(heap, out, template)?)),
+        Call::Fallback { template } => Ok(outcome(report::fallback(heap, out, template)?)),
         Call::Unknown => {
             out.push_str(
                 "  refused: neither 'define MATCHER => TEMPLATE' nor 'fallback TEMPLATE'\n",
             )?;
-            Ok(Some(true))
+            Ok(Outcome::Refused)
         }
-    }
-}
-
-fn counted(tally: Tally, refused: bool) -> Tally {
-    Tally {
-        calls: tally.calls.saturating_add(1),
-        refused: tally.refused.saturating_add(usize::from(refused)),
     }
 }
 
@@ -112,17 +128,20 @@ fn line_end(page: &[u8], at: usize) -> usize
 fn one_line(
     heap: Global,
     out: &mut String,
-    tally: Tally,
+    tally: &mut Tally,
     number: usize,
     line: &[u8],
-) -> Result<Tally, AnyError> {
+) -> Result<(), AnyError> {
     let mut part = String::new(heap);
-    let Some(refused) = check_line(heap, &mut part, line)? else {
-        return Ok(tally);
-    };
+    match check_line(heap, &mut part, line)? {
+        Outcome::NoCall => return Ok(()),
+        Outcome::Refused => tally.refused = tally.refused.saturating_add(1),
+        Outcome::Read(code) => tally.codes.push(Stored { line: number, code })?,
+    }
+    tally.calls = tally.calls.saturating_add(1);
     report::heading(out, number, line)?;
     out.push_str(part.as_str())?;
-    Ok(counted(tally, refused))
+    Ok(())
 }
 
 // The report on a whole page.
@@ -131,20 +150,48 @@ pub fn check_page(heap: Global, page: &[u8]) -> Result<String, AnyError> {
     let mut tally = Tally {
         calls: 0,
         refused: 0,
+        codes: Vec::new(heap),
     };
     let mut at = 0;
     let mut number = 0usize;
     while at < page.len() {
         let end = line_end(page, at);
         number = number.saturating_add(1);
-        tally = one_line(heap, &mut out, tally, number, &page[at..end])?;
+        one_line(heap, &mut out, &mut tally, number, &page[at..end])?;
         at = end + 1;
     }
-    close(&mut out, tally)?;
+    push_shared(&mut out, tally.codes.as_slice())?;
+    close(&mut out, &tally)?;
     Ok(out)
 }
 
-fn close(out: &mut String, tally: Tally) -> Result<(), AnyError> {
+// The first line with the same code.
+fn first_alike(codes: &[Stored], code: &[u8]) -> Option<usize> {
+    for stored in codes {
+        if stored.code.as_slice() == code {
+            return Some(stored.line);
+        }
+    }
+    None
+}
+
+// Which lines share a code, so that their templates mean the same.
+fn push_shared(out: &mut String, codes: &[Stored]) -> Result<(), AnyError> {
+    for stored in codes {
+        let line = stored.line;
+        if let Some(first) = first_alike(codes, stored.code.as_slice())
+            && first < line
+        {
+            writeln!(
+                out,
+                "lines {first} and {line} share a code: their templates mean the same"
+            )?;
+        }
+    }
+    Ok(())
+}
+
+fn close(out: &mut String, tally: &Tally) -> Result<(), AnyError> {
     let calls = tally.calls;
     let refused = tally.refused;
     let read = calls.saturating_sub(refused);

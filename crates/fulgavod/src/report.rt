@@ -1,7 +1,9 @@
 use crate::show::Shown;
 use crate::show::push_quoted;
+use codes::EncodeErrorRefusal;
 use controls::SubFormatterConst;
 use controls::step_at;
+use encode::encode;
 use formatter::FallbackParseError;
 use formatter::Formatter;
 use formatter::halve;
@@ -26,6 +28,7 @@ use templates::FormatterConst;
 use templates::output_at;
 use templates::parse_definition;
 use templates::parse_template;
+use written::write_back;
 
 // The number of a line, and the line as typed.
 pub fn heading(out: &mut String, number: usize, line: &[u8]) -> Result<(), AnyError> {
@@ -35,17 +38,17 @@ pub fn heading(out: &mut String, number: usize, line: &[u8]) -> Result<(), AnyEr
     Ok(())
 }
 
-// Reports a definition, and answers whether it is refused.
+// Reports a definition, and answers its template's code unless it is refused.
 pub fn define<'a>(
     heap: Global,
     out: &mut String,
     matcher: &'a [u8],
     template: &'a [u8],
-) -> Result<bool, AnyError> {
+) -> Result<Option<Vec<u8>>, AnyError> {
     match parse_definition(matcher, template) {
         Err(fault) => {
             push_either(out, matcher, template, fault)?;
-            Ok(true)
+            Ok(None)
         }
         Ok(read) => {
             push_matcher(out, read.matcher)?;
@@ -54,39 +57,94 @@ pub fn define<'a>(
     }
 }
 
-// Reports a template with its separators, and answers whether it is refused.
-fn whole(heap: Global, out: &mut String, template: &[u8]) -> Result<bool, AnyError> {
+// Reports a template with its separators, and answers its code unless it is refused.
+fn whole(heap: Global, out: &mut String, template: &[u8]) -> Result<Option<Vec<u8>>, AnyError> {
     match parse_formatter(template) {
         Err(fault) => {
             push_deep(heap, out, template, fault)?;
-            Ok(true)
+            Ok(None)
         }
         Ok(read) => {
             push_template(heap, out, read)?;
-            Ok(false)
+            stored(heap, out, template)
         }
     }
 }
 
-// Reports a template for all names that nothing else matches, and answers whether it is refused.
-pub fn fallback(heap: Global, out: &mut String, template: &[u8]) -> Result<bool, AnyError> {
+// Reports a template for all names that nothing else matches, and answers its code unless it is refused.
+pub fn fallback(
+    heap: Global,
+    out: &mut String,
+    template: &[u8],
+) -> Result<Option<Vec<u8>>, AnyError> {
     match parse_fallback(template) {
         Ok(read) => {
             push_template(heap, out, read)?;
-            Ok(false)
+            stored(heap, out, template)
         }
         Err(FallbackParseError::FormatterParseError(fault)) => {
             push_deep(heap, out, template, fault)?;
-            Ok(true)
+            Ok(None)
         }
         Err(FallbackParseError::MaxCaptureTooLarge(n)) => {
             writeln!(
                 out,
                 "  refused 15 MaxCaptureTooLarge: capture {n}, where only 0, the whole name, is known"
             )?;
-            Ok(true)
+            Ok(None)
         }
     }
+}
+
+// ---- codes
+
+// Reports the code by which a template is stored, and the template written back from it.
+fn stored(heap: Global, out: &mut String, template: &[u8]) -> Result<Option<Vec<u8>>, AnyError> {
+    let mut buffer = [0u8; 1024];
+    match encode(template, &mut buffer) {
+        Ok(size) if size <= buffer.len() => {
+            let code = buffer[0..size].to_vec(heap)?;
+            push_code(out, code.as_slice())?;
+            push_back(out, code.as_slice())?;
+            Ok(Some(code))
+        }
+        Ok(_) => Ok(None),
+        Err(fault) => {
+            let number = fault.number();
+            let name = fault.name();
+            writeln!(
+                out,
+                "  refused {number} {name}: a code has at most 1024 bytes"
+            )?;
+            Ok(None)
+        }
+    }
+}
+
+// The bytes of a code in hexadecimal, thirty-two to a line.
+fn push_code(out: &mut String, code: &[u8]) -> Result<(), AnyError> {
+    let size = code.len();
+    writeln!(out, "  code of {size} bytes")?;
+    for line in code.chunks(32) {
+        out.push_str("    ")?;
+        for b in line {
+            write!(out, "{b:02x}")?;
+        }
+        out.push('\n')?;
+    }
+    Ok(())
+}
+
+fn push_back(out: &mut String, code: &[u8]) -> Result<(), AnyError> {
+    let mut buffer = [0u8; 4096];
+    if let Ok(size) = write_back(code, &mut buffer)
+        && size <= buffer.len()
+    {
+        out.push_str("  written back ")?;
+        Shown::new(&buffer[0..size]).push(out)?;
+        out.push('\n')?;
+    }
+    Ok(())
 }
 
 // ---- faults

@@ -82,8 +82,9 @@ pub fn command_at(code: &[u8], at: usize) -> Option<(Command, usize)>
     ensures within { λ r. ⌜ BySome r (0 ≤ 0) (λ p. at < p .1) ⌝ ∗ ⌜ BySome r (0 ≤ 0) (λ p. p .1 ≤ length (now (code .entry))) ⌝ }
     ensures value { λ r. ⌜ r ≡ commandAt at (drop at (now (code .entry))) ⌝ }
 {
-    let behind = at.checked_add(1)?;
-    match byte_at(code, at)? {
+    let number = byte_at(code, at)?;
+    let behind = at + 1;
+    match number {
         0 => Some((Command::End, behind)),
         1 => Some((power_at(code, behind)?, behind + 8)),
         2 => Some((Command::Byte(byte_at(code, behind)?), behind + 1)),

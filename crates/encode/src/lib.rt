@@ -1,0 +1,9 @@
+// Writes the code of a template.
+mod pieces;
+mod separators;
+mod steps;
+mod texts;
+mod whole;
+mod words;
+
+pub use whole::encode;

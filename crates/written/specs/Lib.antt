@@ -1,0 +1,4 @@
+pub mod Ahead
+pub mod Pens
+pub mod Spelled
+pub mod Trips
