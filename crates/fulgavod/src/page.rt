@@ -87,7 +87,7 @@ enum Outcome {
     Read(Vec<u8>),
 }
 
-fn outcome(code: Option<Vec<u8>>) -> Outcome {
+fn came_of(code: Option<Vec<u8>>) -> Outcome {
     match code {
         Some(code) => Outcome::Read(code),
         None => Outcome::Refused,
@@ -98,10 +98,10 @@ fn outcome(code: Option<Vec<u8>>) -> Outcome {
 fn check_line(heap: Global, out: &mut String, line: &[u8]) -> Result<Outcome, AnyError> {
     match call_of(line) {
         Call::Nothing => Ok(Outcome::NoCall),
-        Call::Define { matcher, template } => Ok(outcome(
+        Call::Define { matcher, template } => Ok(came_of(
             report::define(heap, out, matcher, template)?,
         )),
-        Call::Fallback { template } => Ok(outcome(report::fallback(heap, out, template)?)),
+        Call::Fallback { template } => Ok(came_of(report::fallback(heap, out, template)?)),
         Call::Unknown => {
             out.push_str(
                 "  refused: neither 'define MATCHER => TEMPLATE' nor 'fallback TEMPLATE'\n",
