@@ -1,0 +1,3 @@
+pub mod Tally
+pub mod Counting
+pub mod Returned

@@ -1,0 +1,9 @@
+pub mod Greatest
+pub mod ReadSteps
+pub mod Descends
+pub mod Grammatical
+pub mod Placing
+pub mod Celled
+pub mod Following
+pub mod Grouping
+pub mod Marking

@@ -1,0 +1,4 @@
+pub mod Rules
+pub mod Texts
+pub mod Slots
+pub mod Laws

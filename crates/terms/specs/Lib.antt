@@ -1,0 +1,4 @@
+pub mod Refusals
+pub mod Source
+pub mod Opening
+pub mod Laws
