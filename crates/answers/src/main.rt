@@ -1,4 +1,6 @@
 // Answers calls of the readers, the plain engine and the term sources, one line for each line of standard input; docs/PROTOCOL.md has the lines.
+#![tactic(auto)]
+
 mod calls;
 mod dump;
 mod engines;

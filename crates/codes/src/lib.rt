@@ -1,4 +1,6 @@
 // Codes: the binary form of readings, its laws and its refusals.
+#![tactic(auto)]
+
 mod error;
 mod theorems;
 

@@ -1,4 +1,6 @@
 // Readers for the controls of a template, and for the numbers, paths and powers in them.
+#![tactic(auto)]
+
 mod captures;
 mod children;
 mod control;

@@ -1,4 +1,6 @@
 // The check of a definition with an engine: its pattern prepared, its separators read, its captures counted.
+#![tactic(auto)]
+
 mod check;
 mod error;
 

@@ -1,4 +1,6 @@
 // Writes the code of a template.
+#![tactic(auto)]
+
 mod pieces;
 mod separators;
 mod steps;

@@ -1,4 +1,6 @@
 // What a pattern engine is: a rule, a holding, the tickets of what is prepared, and the questions.
+#![tactic(auto)]
+
 mod error;
 mod pattern_engine;
 mod span;

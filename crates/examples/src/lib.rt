@@ -1,4 +1,6 @@
 // Examples of what the readers answer, as tests.
+#![tactic(auto)]
+
 #[cfg(test)]
 mod tests {
     use codes::CodeError;

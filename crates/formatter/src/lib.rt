@@ -1,4 +1,6 @@
 // The whole reading of a template, its separators read too.
+#![tactic(auto)]
+
 mod defns;
 mod error;
 mod halves;

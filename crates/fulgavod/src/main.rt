@@ -1,4 +1,6 @@
 // Reads a page of display definitions and terms, and reports what each reads as, or where it is at fault.
+#![tactic(auto)]
+
 mod blocks;
 mod page;
 

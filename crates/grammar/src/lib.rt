@@ -1,4 +1,6 @@
 // The template grammar: numbers and readings, the grammar as a relation, and what its readers answer.
+#![tactic(auto)]
+
 mod defns;
 mod theorems;
 

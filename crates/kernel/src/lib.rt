@@ -1,4 +1,6 @@
 // The calls that a program in C or Rust makes: on numbers, slices of bytes and plain records.
+#![tactic(auto)]
+
 mod calls;
 mod faults;
 mod parts;

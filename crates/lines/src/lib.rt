@@ -1,4 +1,6 @@
 // The line of a term: what happens while it is printed, by a choice of templates and a source of terms, and how limits and room cut it.
+#![tactic(auto)]
+
 mod answer;
 mod chooser;
 mod choosing;

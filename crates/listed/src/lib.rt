@@ -1,4 +1,6 @@
 // The answer list: an engine whose rule is that of the rows that it is made from.
+#![tactic(auto)]
+
 mod answer_list;
 mod answers;
 mod rows;

@@ -1,4 +1,6 @@
 // Readers for matchers: what a definition is for.
+#![tactic(auto)]
+
 mod defns_const;
 mod parse;
 

@@ -1,4 +1,6 @@
 // What it means that a pattern matches a name: the ways to share the name out, and the one in which earlier items take the most.
+#![tactic(auto)]
+
 mod items;
 mod laws;
 

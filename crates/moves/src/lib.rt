@@ -1,4 +1,6 @@
 // The moves of a print: bytes and visits, the children that indices name, what a code has at a place.
+#![tactic(auto)]
+
 mod captures;
 mod children;
 mod pen;

@@ -1,4 +1,6 @@
 // Writing bytes into a caller's buffer, one after the other or all at once.
+#![tactic(auto)]
+
 ghost use Rattle.std.specs.Prelude.{◌≡◌, [], ◌∷◌, ◌++◌, length, if◌then◌else◌, Some, None, nat_le};
 ghost use Rattle.pen.specs.Pen.{Wrote, delivered};
 

@@ -1,4 +1,6 @@
 // The plain engine: patterns of bytes and `.` with `*`, `+` or `?`, and of groups, matched to whole names by a table.
+#![tactic(auto)]
+
 mod cells;
 mod descent;
 mod finding;

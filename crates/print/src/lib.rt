@@ -1,4 +1,6 @@
 // The print of a term into a buffer.
+#![tactic(auto)]
+
 mod job;
 mod printing;
 mod show;

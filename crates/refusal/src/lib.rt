@@ -1,4 +1,6 @@
 // The refusals of the readers: what is wrong, by number, name and layer, and which part of the text it is.
+#![tactic(auto)]
+
 mod error;
 
 pub use error::{

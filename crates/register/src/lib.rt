@@ -1,4 +1,6 @@
 // What a book of definitions owes: the register that the calls' arguments make, and what each call answers.
+#![tactic(auto)]
+
 mod answer;
 mod call;
 mod error;

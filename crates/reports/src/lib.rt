@@ -1,4 +1,6 @@
 // What the page checker writes of a definition, a fallback or terms: what each reads as, or where it is at fault.
+#![tactic(auto)]
+
 mod definitions;
 mod show;
 mod trees;

@@ -1,4 +1,6 @@
 // A table of terms: each row has a name and the numbers of its children.
+#![tactic(auto)]
+
 mod check;
 mod laws;
 mod rows;

@@ -1,4 +1,6 @@
 // A postfix tape of terms: each node has a name and a child count, and its children are the subtrees that end just before it.
+#![tactic(auto)]
+
 mod check;
 mod convert;
 mod laws;

@@ -1,4 +1,6 @@
 // Readers for templates and definitions, with the parts that were typed; separators stay unread.
+#![tactic(auto)]
+
 mod bodies;
 mod defns_const;
 mod frames;

@@ -1,4 +1,6 @@
 // Sources of terms: what one owes, what is proved of them, and the refusal of a term that breaks their law.
+#![tactic(auto)]
+
 mod error;
 mod items;
 mod laws;

@@ -1,4 +1,6 @@
 // The commands of a code, read one by one.
+#![tactic(auto)]
+
 mod ahead;
 mod commands;
 mod operands;

@@ -1,4 +1,6 @@
 // Codes written back as templates.
+#![tactic(auto)]
+
 mod back;
 mod commands;
 mod decimals;
