@@ -29,11 +29,11 @@ powers_formed : {t : List ℕ} {a b c d : ℕ} → Powers t a b c d → Power a 
 powers_formed Powers.none = (omega arith, omega arith, omega arith, omega arith)
 powers_formed (Powers.a h) = (h, h, h, h)
 powers_formed (Powers.ab h k) = (omega arith, h, k, omega arith)
-powers_formed (Powers.a-b h k) = (h, omega arith, omega arith, k)
-powers_formed (Powers.ab-c h k l) = (omega arith, h, k, l)
-powers_formed (Powers.a-bc h k l) = (h, k, l, omega arith)
-powers_formed (Powers.a-b-c h k l) = (h, k, k, l)
-powers_formed (Powers.a-bc-d h k l m) = (h, k, l, m)
+powers_formed (Powers.a_b h k) = (h, omega arith, omega arith, k)
+powers_formed (Powers.ab_c h k l) = (omega arith, h, k, l)
+powers_formed (Powers.a_bc h k l) = (h, k, l, omega arith)
+powers_formed (Powers.a_b_c h k l) = (h, k, k, l)
+powers_formed (Powers.a_bc_d h k l m) = (h, k, l, m)
 
 -- ---- bytes
 bytes_left : (a b : List ℕ) → All Byte (a ++ b) → All Byte a

@@ -222,7 +222,7 @@ powers_back_lem x h = go (eqb x.left 0 && (eqb x.middle_left 0 && (eqb x.middle_
         let q = and_parts (eqb x.middle_left 0) (eqb x.middle_right 0 && eqb x.right 0) p.1 in
         let r = and_parts (eqb x.middle_right 0) (eqb x.right 0) q.1 in
         rw (eqb-true x.left 0 p.0, eqb-true x.middle_left 0 q.0, eqb-true x.middle_right 0 r.0, eqb-true x.right 0 r.1) Powers.none
-    go false e = Powers.a-bc-d h.left h.middle_left h.middle_right h.right
+    go false e = Powers.a_bc_d h.left h.middle_left h.middle_right h.right
 
 -- where no `)$` stands in it, a repeat is read back
 pub repeat_back_lem : (s : List ℕ) (x : Repeat) → All Index s → FormedRepeat x → closes (repeat_back s x) ≡ false → Repeats ReadsSeparator (repeat_back s x) s x

@@ -10,7 +10,7 @@ use Rattle.grammar.proofs.UnreadRead.{unread_forth, unread_back}
 use Rattle.grammar.proofs.Whole as whole
 
 pub read_as_the_grammar_lem : ReadAsTheGrammar
-read_as_the_grammar_lem = whole.read-as-the-grammar (unread_forth control_forth) (unread_back control_back) separators_open
+read_as_the_grammar_lem = whole.read_as_the_grammar_lem (unread_forth control_forth) (unread_back control_back) separators_open
 
 pub one_reading : OneReading
-one_reading = whole.readings-are-unique read_as_the_grammar_lem
+one_reading = whole.readings_are_unique read_as_the_grammar_lem

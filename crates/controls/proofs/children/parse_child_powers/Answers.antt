@@ -4,14 +4,14 @@ use Rattle.grammar.specs.Powers.{pair_at}
 use Rattle.controls.proofs.Sequence.{fails, goes, other, rest}
 use Rattle.controls.proofs.children.parse_child_powers.Goals as goal
 
-pub returns-in-err-pair : goal.returns-in-err-pair
-returns-in-err-pair c =
+pub returns-in_err-pair : goal.returns-in_err-pair
+returns-in_err-pair c =
     let t = c.args.text.now in
     let p = err_from_is_err_and c.from-residual.result c.from-residual.ensures.1 in
     rw (p.1, p.2)
-    (other _ _ c.args.bar (length t) (omega arith) (fails _ _ _ (rest (pair_at _) t _ c.in-err-pair.ensures)))
+    (other _ _ c.args.bar (length t) (omega arith) (fails _ _ _ (rest (pair_at _) t _ c.in_err-pair.ensures)))
 
 pub returns : goal.returns
 returns c =
     let t = c.args.text.now in
-    other _ _ c.args.bar (length t) (omega arith) (goes _ _ _ (rest (pair_at _) t _ c.in-ok-pair.ensures) refl)
+    other _ _ c.args.bar (length t) (omega arith) (goes _ _ _ (rest (pair_at _) t _ c.in_ok-pair.ensures) refl)

@@ -5,13 +5,13 @@ use Rattle.grammar.specs.Controls.{capture_at}
 use Rattle.controls.proofs.ControlSteps.{inside_fails, closes}
 use Rattle.controls.proofs.control.close_capture.Goals as goal
 
-pub returns-in-err-piece : goal.returns-in-err-piece
-returns-in-err-piece c =
+pub returns-in_err-piece : goal.returns-in_err-piece
+returns-in_err-piece c =
     let p = err_from_is_err_and c.from-residual.result c.from-residual.ensures.1 in
-    rw (p.1, p.2) (record { within = tt; same = inside_fails 125 Curly capture_at _ c.args.text.now _ c.in-Some.ensures.first _ c.in-err-piece.ensures })
+    rw (p.1, p.2) (record { within = tt; same = inside_fails 125 Curly capture_at _ c.args.text.now _ c.in-Some.ensures.first _ c.in_err-piece.ensures })
 
 pub returns : goal.returns
 returns c = record {
   within = omega (arith, c.in-Some.ensures.within);
-  same = closes 125 Curly capture_at _ c.args.text.now _ c.in-Some.ensures.first _ c.in-ok-piece.ensures;
+  same = closes 125 Curly capture_at _ c.args.text.now _ c.in-Some.ensures.first _ c.in_ok-piece.ensures;
 }

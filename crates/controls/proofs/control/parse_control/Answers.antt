@@ -21,8 +21,8 @@ returns-in-91 c =
     let t = c.args.template.now in
     let n = c.args.from in
     record {
-      within = IfOk-weaker c.close-single.result _ _ (λ p h. inside t n p.1 c.if-from-template.false h) c.close-single.ensures.within;
-      same = same _ _ (get_or t n 0) 91 c.in-91.is (rest (closed_by 93 Square child_at _) t (n + 1) c.close-single.ensures.same) ∙ sym (at_drop_more (control_at n) t n 0 c.if-from-template.false);
+      within = IfOk-weaker c.close_single.result _ _ (λ p h. inside t n p.1 c.if-from-template.false h) c.close_single.ensures.within;
+      same = same _ _ (get_or t n 0) 91 c.in-91.is (rest (closed_by 93 Square child_at _) t (n + 1) c.close_single.ensures.same) ∙ sym (at_drop_more (control_at n) t n 0 c.if-from-template.false);
     }
 
 pub returns-in-40 : goal.returns-in-40
@@ -30,8 +30,8 @@ returns-in-40 c =
     let t = c.args.template.now in
     let n = c.args.from in
     record {
-      within = IfOk-weaker c.close-repeat.result _ _ (λ p h. inside t n p.1 c.if-from-template.false h) c.close-repeat.ensures.within;
-      same = other _ _ (get_or t n 0) 91 (omega arith) (same _ _ (get_or t n 0) 40 c.in-40.is (rest (closed_by 41 Round repeat_at _) t (n + 1) c.close-repeat.ensures.same)) ∙ sym (at_drop_more (control_at n) t n 0 c.if-from-template.false);
+      within = IfOk-weaker c.close_repeat.result _ _ (λ p h. inside t n p.1 c.if-from-template.false h) c.close_repeat.ensures.within;
+      same = other _ _ (get_or t n 0) 91 (omega arith) (same _ _ (get_or t n 0) 40 c.in-40.is (rest (closed_by 41 Round repeat_at _) t (n + 1) c.close_repeat.ensures.same)) ∙ sym (at_drop_more (control_at n) t n 0 c.if-from-template.false);
     }
 
 pub returns-in-123 : goal.returns-in-123
@@ -39,12 +39,12 @@ returns-in-123 c =
     let t = c.args.template.now in
     let n = c.args.from in
     record {
-      within = IfOk-weaker c.close-capture.result _ _ (λ p h. inside t n p.1 c.if-from-template.false h) c.close-capture.ensures.within;
-      same = other _ _ (get_or t n 0) 91 (omega arith) (other _ _ (get_or t n 0) 40 (omega arith) (same _ _ (get_or t n 0) 123 c.in-123.is (rest (closed_by 125 Curly capture_at _) t (n + 1) c.close-capture.ensures.same))) ∙ sym (at_drop_more (control_at n) t n 0 c.if-from-template.false);
+      within = IfOk-weaker c.close_capture.result _ _ (λ p h. inside t n p.1 c.if-from-template.false h) c.close_capture.ensures.within;
+      same = other _ _ (get_or t n 0) 91 (omega arith) (other _ _ (get_or t n 0) 40 (omega arith) (same _ _ (get_or t n 0) 123 c.in-123.is (rest (closed_by 125 Curly capture_at _) t (n + 1) c.close_capture.ensures.same))) ∙ sym (at_drop_more (control_at n) t n 0 c.if-from-template.false);
     }
 
-pub returns-in-default : goal.returns-in-default
-returns-in-default c =
+pub returns-in_default : goal.returns-in_default
+returns-in_default c =
     let t = c.args.template.now in
     let n = c.args.from in
     let long : length t - n ≡ suc (length (drop (n + 1) t)) = simp length-drop (omega arith) in

@@ -5,7 +5,7 @@ use Rattle.controls.proofs.numbers.parse_power.Goals as goal
 
 pub returns-then-from-end : goal.returns-then-from-end
 returns-then-from-end c =
-    c.parse-u32.ensures
+    c.parse_u32.ensures
     ∙ ap (λ n. power_at c.args.from (take (n - c.args.from) (drop c.args.from c.args.template.now))) c.min-end.ensures
     ∙ ap (power_at c.args.from) (cut c.args.template.now c.args.from c.args.to)
 

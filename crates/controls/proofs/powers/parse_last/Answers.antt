@@ -4,10 +4,10 @@ use Rattle.grammar.specs.Marks.{up_to}
 use Rattle.controls.proofs.Sequence.{fails, same}
 use Rattle.controls.proofs.powers.parse_last.Goals as goal
 
-pub returns-in-err-two : goal.returns-in-err-two
-returns-in-err-two c =
+pub returns-in_err-two : goal.returns-in_err-two
+returns-in_err-two c =
     let t = c.args.text.now in
     let u = up_to 124 t in
     let p = err_from_is_err_and c.from-residual.result c.from-residual.ensures.1 in
     rw (p.1, p.2)
-    (same _ _ u (length t) (omega arith) (fails _ _ _ c.in-err-two.ensures))
+    (same _ _ u (length t) (omega arith) (fails _ _ _ c.in_err-two.ensures))

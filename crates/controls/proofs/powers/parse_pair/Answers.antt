@@ -6,26 +6,26 @@ use Rattle.grammar.specs.Powers.{second_power}
 use Rattle.controls.proofs.Sequence.{fails, goes, same, other, front, behind}
 use Rattle.controls.proofs.powers.parse_pair.Goals as goal
 
-pub returns-in-err-both : goal.returns-in-err-both
-returns-in-err-both c =
+pub returns-in_err-both : goal.returns-in_err-both
+returns-in_err-both c =
     let t = c.args.text.now in
     let u = up_to 44 t in
     let p = err_from_is_err_and c.from-residual.result c.from-residual.ensures.1 in
     rw (p.1, p.2)
-    (same _ _ u (length t) (omega arith) (fails _ _ _ c.in-err-both.ensures))
+    (same _ _ u (length t) (omega arith) (fails _ _ _ c.in_err-both.ensures))
 
-pub returns-in-err-left : goal.returns-in-err-left
-returns-in-err-left c =
+pub returns-in_err-left : goal.returns-in_err-left
+returns-in_err-left c =
     let t = c.args.text.now in
     let u = up_to 44 t in
-    let p = err_from_is_err_and c.from-residual-in-err-left.result c.from-residual-in-err-left.ensures.1 in
+    let p = err_from_is_err_and c.from-residual-in_err-left.result c.from-residual-in_err-left.ensures.1 in
     rw (p.1, p.2)
-    (other _ _ u (length t) (omega arith) (fails _ _ _ (front (power_at _) t c.end-of-comma.result u (omega arith) c.in-err-left.ensures)))
+    (other _ _ u (length t) (omega arith) (fails _ _ _ (front (power_at _) t c.end_of-comma.result u (omega arith) c.in_err-left.ensures)))
 
 pub returns : goal.returns
 returns c =
     let t = c.args.text.now in
     let u = up_to 44 t in
     other _ _ u (length t) (omega arith)
-    (goes _ _ _ (front (power_at _) t c.end-of-comma.result u (omega arith) c.in-ok-left.ensures)
-    (behind (second_power _) c.args.place t c.end-of-comma.result u (omega arith) c.parse-second.ensures))
+    (goes _ _ _ (front (power_at _) t c.end_of-comma.result u (omega arith) c.in_ok-left.ensures)
+    (behind (second_power _) c.args.place t c.end_of-comma.result u (omega arith) c.parse_second.ensures))

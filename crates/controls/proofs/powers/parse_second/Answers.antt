@@ -4,7 +4,7 @@ use Rattle.grammar.specs.Numbers.{power_at}
 use Rattle.controls.proofs.Sequence.{fails, front}
 use Rattle.controls.proofs.powers.parse_second.Goals as goal
 
-pub returns-in-err-right : goal.returns-in-err-right
-returns-in-err-right c =
+pub returns-in_err-right : goal.returns-in_err-right
+returns-in_err-right c =
     let p = err_from_is_err_and c.from-residual.result c.from-residual.ensures.1 in
-    rw (p.1, p.2) (fails _ _ _ (front (power_at _) c.args.text.now c.end-of-comma.result _ (omega arith) c.in-err-right.ensures))
+    rw (p.1, p.2) (fails _ _ _ (front (power_at _) c.args.text.now c.end_of-comma.result _ (omega arith) c.in_err-right.ensures))

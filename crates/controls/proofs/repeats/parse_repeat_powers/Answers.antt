@@ -6,4 +6,4 @@ use Rattle.controls.proofs.repeats.parse_repeat_powers.Goals as goal
 pub returns : goal.returns
 returns c =
     let t = c.args.head.now in
-    other _ _ c.args.bar (length t) (omega arith) (rest (powers_at _) t _ c.parse-triple.ensures)
+    other _ _ c.args.bar (length t) (omega arith) (rest (powers_at _) t _ c.parse_triple.ensures)

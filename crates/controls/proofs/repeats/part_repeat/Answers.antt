@@ -6,4 +6,4 @@ use Rattle.controls.proofs.repeats.part_repeat.Goals as goal
 pub returns : goal.returns
 returns c =
     let t = c.args.text.now in
-    other _ _ c.args.dollar (length t) (omega arith) (rest (separators_at _) t _ c.part-separators.ensures)
+    other _ _ c.args.dollar (length t) (omega arith) (rest (separators_at _) t _ c.part_separators.ensures)

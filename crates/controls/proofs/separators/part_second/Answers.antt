@@ -8,4 +8,4 @@ pub returns : goal.returns
 returns c =
     let t = c.args.text.now in
     let u = unpaired 124 t in
-    other _ _ u (length t) (omega arith) (parted (third_part c.args.left.now) c.args.place t c.unpaired-bar.result u (omega arith) c.part-third.ensures)
+    other _ _ u (length t) (omega arith) (parted (third_part c.args.left.now) c.args.place t c.unpaired-bar.result u (omega arith) c.part_third.ensures)

@@ -22,8 +22,8 @@ pub returns-in-Ok : goal.returns-in-Ok
 returns-in-Ok c =
     let n = c.args.at in
     let cs = drop n c.args.path.now in
-    let cut : c.end-of-end.result - n ≡ up_to 58 cs = omega arith in
-    let next : c.end-of-end.result + 1 ≡ n + (up_to 58 cs + 1) = omega arith in
+    let cut : c.end_of-end.result - n ≡ up_to 58 cs = omega arith in
+    let next : c.end_of-end.result + 1 ≡ n + (up_to 58 cs + 1) = omega arith in
     record {
       within = (omega arith, omega arith);
       value =
@@ -35,7 +35,7 @@ pub returns-in-Err : goal.returns-in-Err
 returns-in-Err c =
     let n = c.args.at in
     let cs = drop n c.args.path.now in
-    let cut : c.end-of-end.result - n ≡ up_to 58 cs = omega arith in
+    let cut : c.end_of-end.result - n ≡ up_to 58 cs = omega arith in
     record {
       within = (omega arith, omega arith);
       value =

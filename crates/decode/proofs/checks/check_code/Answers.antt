@@ -3,16 +3,16 @@ use Rattle.decode.proofs.Places.{accepted-code, every_code}
 use Rattle.std.proofs.lemmas.Bool.{false≢true}
 use Rattle.decode.proofs.checks.check_code.Goals as goal
 
-pub returns-then-is-code : goal.returns-then-is-code
-returns-then-is-code c = record {
-  accepts = c.if-is-code.ensures;
+pub returns-then-is_code : goal.returns-then-is_code
+returns-then-is_code c = record {
+  accepts = c.if-is_code.ensures;
   refuses = omega arith;
-  exactly = ((λ h. accepted-code c.args.code.now (sym c.if-is-code.ensures)), λ h. refl);
+  exactly = ((λ h. accepted-code c.args.code.now (sym c.if-is_code.ensures)), λ h. refl);
 }
 
-pub returns-else-is-code : goal.returns-else-is-code
-returns-else-is-code c = record {
-  accepts = c.if-is-code.ensures;
+pub returns-else-is_code : goal.returns-else-is_code
+returns-else-is_code c = record {
+  accepts = c.if-is_code.ensures;
   refuses = refl;
-  exactly = ((λ h. absurd (false≢true h)), λ h. c.if-is-code.ensures ∙ every_code c.args.code.now h.0 h.1);
+  exactly = ((λ h. absurd (false≢true h)), λ h. c.if-is_code.ensures ∙ every_code c.args.code.now h.0 h.1);
 }

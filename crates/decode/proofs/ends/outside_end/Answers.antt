@@ -2,17 +2,17 @@ use Rattle.std.proofs.Common.{◌≡◌, Bool, cond, drop, Some, None, sym, ap, 
 use Rattle.decode.proofs.Places.{outside-none, outside-ends, outside-goes, outside_stops}
 use Rattle.decode.proofs.ends.outside_end.Goals as goal
 
-pub returns-in-err-command : goal.returns-in-err-command
-returns-in-err-command c =
+pub returns-in_err-command : goal.returns-in_err-command
+returns-in_err-command c =
     rw c.from-residual.ensures
-    (record { within = omega arith; value = outside-none c.args.code.now c.run.at c.run.walk c.in-err-command.ensures.value ∙ c.run.invariant.2 })
+    (record { within = omega arith; value = outside-none c.args.code.now c.run.at c.run.walk c.in_err-command.ensures.value ∙ c.run.invariant.2 })
 
-pub returns-then-may-end : goal.returns-then-may-end
-returns-then-may-end c = record {
-  within = omega (arith, c.in-ok-command.ensures.within);
+pub returns-then-may_end : goal.returns-then-may_end
+returns-then-may_end c = record {
+  within = omega (arith, c.in_ok-command.ensures.within);
   value =
-      ap (λ (b : Bool). cond b (Some (drop c.in-ok-command.operands-end c.args.code.now)) None) c.if-may-end.ensures
-      ∙ outside-ends c.args.code.now c.run.at c.run.walk c.in-ok-command.operands-end (ap (λ k. Some (k, c.in-ok-command.operands-end)) (sym c.in-End.is) ∙ c.in-ok-command.ensures.value) c.run.invariant.1
+      ap (λ (b : Bool). cond b (Some (drop c.in_ok-command.operands_end c.args.code.now)) None) c.if-may_end.ensures
+      ∙ outside-ends c.args.code.now c.run.at c.run.walk c.in_ok-command.operands_end (ap (λ k. Some (k, c.in_ok-command.operands_end)) (sym c.in-End.is) ∙ c.in_ok-command.ensures.value) c.run.invariant.1
       ∙ c.run.invariant.2;
 }
 
@@ -20,33 +20,33 @@ pub returns-in-End : goal.returns-in-End
 returns-in-End c = record {
   within = omega arith;
   value =
-      ap (λ (b : Bool). cond b (Some (drop c.in-ok-command.operands-end c.args.code.now)) None) c.if-may-end.ensures
-      ∙ outside-ends c.args.code.now c.run.at c.run.walk c.in-ok-command.operands-end (ap (λ k. Some (k, c.in-ok-command.operands-end)) (sym c.in-End.is) ∙ c.in-ok-command.ensures.value) c.run.invariant.1
+      ap (λ (b : Bool). cond b (Some (drop c.in_ok-command.operands_end c.args.code.now)) None) c.if-may_end.ensures
+      ∙ outside-ends c.args.code.now c.run.at c.run.walk c.in_ok-command.operands_end (ap (λ k. Some (k, c.in_ok-command.operands_end)) (sym c.in-End.is) ∙ c.in_ok-command.ensures.value) c.run.invariant.1
       ∙ c.run.invariant.2;
 }
 
-pub returns-in-err-walk : goal.returns-in-err-walk
-returns-in-err-walk c =
-    rw c.from-residual-in-err-walk.ensures
+pub returns-in_err-walk : goal.returns-in_err-walk
+returns-in_err-walk c =
+    rw c.from-residual-in_err-walk.ensures
     (record {
       within = omega arith;
-      value = outside_stops c.args.code.now c.run.at c.run.walk c.in-ok-command.command c.in-ok-command.operands-end c.in-ok-command.ensures.value c.in-default.not-End c.in-err-walk.ensures.value ∙ c.run.invariant.2;
+      value = outside_stops c.args.code.now c.run.at c.run.walk c.in_ok-command.command c.in_ok-command.operands_end c.in_ok-command.ensures.value c.in_default.not-End c.in_err-walk.ensures.value ∙ c.run.invariant.2;
     })
 
-pub returns-in-err-at : goal.returns-in-err-at
-returns-in-err-at c =
-    rw c.from-residual-in-err-at.ensures
+pub returns-in_err-at : goal.returns-in_err-at
+returns-in_err-at c =
+    rw c.from-residual-in_err-at.ensures
     (record {
       within = omega arith;
-      value = outside-goes c.args.code.now c.run.at c.run.walk c.in-ok-command.command c.in-ok-command.operands-end (Some c.in-ok-walk.walk) None c.in-ok-command.ensures.value c.in-default.not-End c.in-ok-walk.ensures.value c.in-err-at.ensures.value ∙ c.run.invariant.2;
+      value = outside-goes c.args.code.now c.run.at c.run.walk c.in_ok-command.command c.in_ok-command.operands_end (Some c.in_ok-walk.walk) None c.in_ok-command.ensures.value c.in_default.not-End c.in_ok-walk.ensures.value c.in_err-at.ensures.value ∙ c.run.invariant.2;
     })
 
 pub run-smaller : goal.run-smaller
-run-smaller c = omega (arith, c.in-ok-command.ensures.within, c.in-ok-at.ensures.within, c.in-ok-at.ensures.further)
+run-smaller c = omega (arith, c.in_ok-command.ensures.within, c.in_ok-at.ensures.within, c.in_ok-at.ensures.further)
 
 pub run-preserved : goal.run-preserved
 run-preserved c = (
-  omega (arith, c.in-ok-command.ensures.within, c.in-ok-at.ensures.further),
-  c.in-ok-walk.ensures.few,
-  outside-goes c.args.code.now c.run.at c.run.walk c.in-ok-command.command c.in-ok-command.operands-end (Some c.in-ok-walk.walk) (Some (drop c.in-ok-at.at c.args.code.now)) c.in-ok-command.ensures.value c.in-default.not-End c.in-ok-walk.ensures.value c.in-ok-at.ensures.value ∙ c.run.invariant.2,
+  omega (arith, c.in_ok-command.ensures.within, c.in_ok-at.ensures.further),
+  c.in_ok-walk.ensures.few,
+  outside-goes c.args.code.now c.run.at c.run.walk c.in_ok-command.command c.in_ok-command.operands_end (Some c.in_ok-walk.walk) (Some (drop c.in_ok-at.at c.args.code.now)) c.in_ok-command.ensures.value c.in_default.not-End c.in_ok-walk.ensures.value c.in_ok-at.ensures.value ∙ c.run.invariant.2,
 )

@@ -6,61 +6,61 @@ use Rattle.templates.specs.Views.{seen}
 use Rattle.displays.proofs.Sequel.{definition_refused, refused_by, accepted_by, rest_exact, rest_pattern}
 use Rattle.displays.proofs.check.check_definition.Goals as goal
 
-pub returns-in-err-display : goal.returns-in-err-display
-returns-in-err-display g c =
+pub returns-in_err-display : goal.returns-in_err-display
+returns-in_err-display g c =
     let p = err_from_is_err_and c.from-residual.result c.from-residual.ensures.1 in
     record {
       fixed = record { rules = refl; sizes = refl };
-      refusal = rw (p.1, p.2) (definition_refused (g.E.PatternEngine.view c.args.engine.now) c.args.matcher.now c.args.template.now _ c.in-err-display.ensures);
+      refusal = rw (p.1, p.2) (definition_refused (g.E.PatternEngine.view c.args.engine.now) c.args.matcher.now c.args.template.now _ c.in_err-display.ensures);
       cases = rw p.1 (λ k. refl);
     }
 
-pub returns-in-err-check-captures : goal.returns-in-err-check-captures
-returns-in-err-check-captures g c =
-    let p = err_from_is_err_and c.from-residual-in-err-check-captures.result c.from-residual-in-err-check-captures.ensures.1 in
+pub returns-in_err-check_captures : goal.returns-in_err-check_captures
+returns-in_err-check_captures g c =
+    let p = err_from_is_err_and c.from-residual-in_err-check_captures.result c.from-residual-in_err-check_captures.ensures.1 in
     let v = g.E.PatternEngine.view c.args.engine.now in
-    let d = c.in-ok-display.display in
+    let d = c.in_ok-display.display in
     let e = rest_exact v (matched d.matcher) c.args.template.now (ap is_pattern c.in-Exact.is) in
     record {
       fixed = record { rules = refl; sizes = refl };
-      refusal = rw (p.1, p.2) (refused_by v c.args.matcher.now c.args.template.now (matched d.matcher) (seen d.formatter) _ c.in-ok-display.ensures (ap result_err c.in-err-check-captures.ensures ∙ sym (ap result_err e)));
+      refusal = rw (p.1, p.2) (refused_by v c.args.matcher.now c.args.template.now (matched d.matcher) (seen d.formatter) _ c.in_ok-display.ensures (ap result_err c.in_err-check_captures.ensures ∙ sym (ap result_err e)));
       cases = rw p.1 (λ k. refl);
     }
 
-pub returns-in-err-ticket : goal.returns-in-err-ticket
-returns-in-err-ticket g c =
-    let p = err_from_is_err_and c.from-residual-in-err-ticket.result c.from-residual-in-err-ticket.ensures.1 in
+pub returns-in_err-ticket : goal.returns-in_err-ticket
+returns-in_err-ticket g c =
+    let p = err_from_is_err_and c.from-residual-in_err-ticket.result c.from-residual-in_err-ticket.ensures.1 in
     let v = g.E.PatternEngine.view c.args.engine.now in
-    let d = c.in-ok-display.display in
+    let d = c.in_ok-display.display in
     let e = rest_pattern v (matched d.matcher) c.args.template.now (ap is_pattern c.in-Regex.is) in
     record {
-      fixed = c.check-pattern.ensures.fixed;
-      refusal = rw (p.1, p.2) (refused_by v c.args.matcher.now c.args.template.now (matched d.matcher) (seen d.formatter) _ c.in-ok-display.ensures (c.in-err-ticket.ensures.refusal ∙ sym (ap result_err e)));
-      cases = rw p.1 c.in-err-ticket.ensures.cases;
+      fixed = c.check_pattern.ensures.fixed;
+      refusal = rw (p.1, p.2) (refused_by v c.args.matcher.now c.args.template.now (matched d.matcher) (seen d.formatter) _ c.in_ok-display.ensures (c.in_err-ticket.ensures.refusal ∙ sym (ap result_err e)));
+      cases = rw p.1 c.in_err-ticket.ensures.cases;
     }
 
-pub returns-in-ok-check-captures : goal.returns-in-ok-check-captures
-returns-in-ok-check-captures g c =
+pub returns-in_ok-check_captures : goal.returns-in_ok-check_captures
+returns-in_ok-check_captures g c =
     let v = g.E.PatternEngine.view c.args.engine.now in
-    let d = c.in-ok-display.display in
+    let d = c.in_ok-display.display in
     let x : (matched d.matcher).pattern ≡ false = ap is_pattern c.in-Exact.is in
     let e = rest_exact v (matched d.matcher) c.args.template.now x in
-    let n = ap result_err c.in-ok-check-captures.ensures ∙ sym (ap result_err e) in
+    let n = ap result_err c.in_ok-check_captures.ensures ∙ sym (ap result_err e) in
     record {
       fixed = record { rules = refl; sizes = refl };
-      refusal = refused_by v c.args.matcher.now c.args.template.now (matched d.matcher) (seen d.formatter) _ c.in-ok-display.ensures n;
-      cases = accepted_by v c.args.matcher.now c.args.template.now (matched d.matcher) (seen d.formatter) _ _ _ c.in-ok-display.ensures n (x, λ k. refl);
+      refusal = refused_by v c.args.matcher.now c.args.template.now (matched d.matcher) (seen d.formatter) _ c.in_ok-display.ensures n;
+      cases = accepted_by v c.args.matcher.now c.args.template.now (matched d.matcher) (seen d.formatter) _ _ _ c.in_ok-display.ensures n (x, λ k. refl);
     }
 
-pub returns-in-ok-ticket : goal.returns-in-ok-ticket
-returns-in-ok-ticket g c =
+pub returns-in_ok-ticket : goal.returns-in_ok-ticket
+returns-in_ok-ticket g c =
     let v = g.E.PatternEngine.view c.args.engine.now in
-    let d = c.in-ok-display.display in
+    let d = c.in_ok-display.display in
     let x : (matched d.matcher).pattern ≡ true = ap is_pattern c.in-Regex.is in
     let e = rest_pattern v (matched d.matcher) c.args.template.now x in
-    let n = c.in-ok-ticket.ensures.refusal ∙ sym (ap result_err e) in
+    let n = c.in_ok-ticket.ensures.refusal ∙ sym (ap result_err e) in
     record {
-      fixed = c.check-pattern.ensures.fixed;
-      refusal = refused_by v c.args.matcher.now c.args.template.now (matched d.matcher) (seen d.formatter) _ c.in-ok-display.ensures n;
-      cases = accepted_by v c.args.matcher.now c.args.template.now (matched d.matcher) (seen d.formatter) _ _ _ c.in-ok-display.ensures n (x, c.in-ok-ticket.ensures.cases);
+      fixed = c.check_pattern.ensures.fixed;
+      refusal = refused_by v c.args.matcher.now c.args.template.now (matched d.matcher) (seen d.formatter) _ c.in_ok-display.ensures n;
+      cases = accepted_by v c.args.matcher.now c.args.template.now (matched d.matcher) (seen d.formatter) _ _ _ c.in_ok-display.ensures n (x, c.in_ok-ticket.ensures.cases);
     }

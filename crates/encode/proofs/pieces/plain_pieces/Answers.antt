@@ -5,14 +5,14 @@ use Rattle.encode.proofs.pieces.plain_pieces.Goals as goal
 pub loop-piece-init : goal.loop-piece-init
 loop-piece-init c = route_begun plain_code _ _ c.requires.0 c.requires.1
 
-pub plain-piece-requires : goal.plain-piece-requires
-plain-piece-requires c = (c.loop-piece.invariant.writes.fits, route_good c.loop-piece.invariant _ _ c.in-Some.ensures.value)
+pub plain_piece-requires : goal.plain_piece-requires
+plain_piece-requires c = (c.loop-piece.invariant.writes.fits, route_good c.loop-piece.invariant _ _ c.in-Some.ensures.value)
 
-pub returns-in-err-pen : goal.returns-in-err-pen
-returns-in-err-pen c = rw c.from-residual.ensures (route_stops c.loop-piece.invariant _ _ c.in-Some.ensures.value _ c.in-err-pen.ensures)
+pub returns-in_err-pen : goal.returns-in_err-pen
+returns-in_err-pen c = rw c.from-residual.ensures (route_stops c.loop-piece.invariant _ _ c.in-Some.ensures.value _ c.in_err-pen.ensures)
 
 pub loop-piece-preserved : goal.loop-piece-preserved
-loop-piece-preserved c = route_more c.loop-piece.invariant _ _ c.in-Some.ensures.value _ _ c.in-ok-pen.ensures
+loop-piece-preserved c = route_more c.loop-piece.invariant _ _ c.in-Some.ensures.value _ _ c.in_ok-pen.ensures
 
 pub returns : goal.returns
-returns c = route_ends c.loop-piece.invariant c.in-default.ensures.value
+returns c = route_ends c.loop-piece.invariant c.in_default.ensures.value

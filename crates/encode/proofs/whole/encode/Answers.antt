@@ -15,13 +15,13 @@ pub returns : goal.returns
 returns c =
     let t = c.args.template.now in
     let bytes : All Byte t = All-from_get_or Byte t 0 (λ i h. (c.type-inv.template i).fits) in
-    let a = c.encode-template.ensures.answer in
-    let b = c.encode-template.ensures.buffer in
+    let a = c.encode_template.ensures.answer in
+    let b = c.encode_template.ensures.buffer in
     record {
       answer = a;
       buffer = b;
-      coded = filled_with (Code BufferTooShort) (encoded t) c.args.out.now c.encode-template.new.out c.encode-template.result (Coding t) a b (λ w. encoded_coding t w bytes);
-      exactly = encodes_exactly t c.args.out.now c.encode-template.result bytes a;
+      coded = filled_with (Code BufferTooShort) (encoded t) c.args.out.now c.encode_template.new.out c.encode_template.result (Coding t) a b (λ w. encoded_coding t w bytes);
+      exactly = encodes_exactly t c.args.out.now c.encode_template.result bytes a;
       same = same_code prefix_free_lem;
       begins = no_code-begins prefix_free_lem;
       back = round_trip decodes;

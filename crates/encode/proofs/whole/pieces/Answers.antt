@@ -16,11 +16,11 @@ piece-requires c =
       read = (output_short _ _ c.in-Some.typed _ short c.in-Some.ensures.value, route_good c.loop-typed.invariant _ _ c.in-Some.ensures.value);
     }
 
-pub returns-in-err-pen : goal.returns-in-err-pen
-returns-in-err-pen c = rw c.from-residual.ensures (route_stops c.loop-typed.invariant _ _ c.in-Some.ensures.value _ c.in-err-pen.ensures)
+pub returns-in_err-pen : goal.returns-in_err-pen
+returns-in_err-pen c = rw c.from-residual.ensures (route_stops c.loop-typed.invariant _ _ c.in-Some.ensures.value _ c.in_err-pen.ensures)
 
 pub loop-typed-preserved : goal.loop-typed-preserved
-loop-typed-preserved c = route_more c.loop-typed.invariant _ _ c.in-Some.ensures.value _ _ c.in-ok-pen.ensures
+loop-typed-preserved c = route_more c.loop-typed.invariant _ _ c.in-Some.ensures.value _ _ c.in_ok-pen.ensures
 
 pub returns : goal.returns
-returns c = route_ends c.loop-typed.invariant c.in-default.ensures.value
+returns c = route_ends c.loop-typed.invariant c.in_default.ensures.value

@@ -8,26 +8,26 @@ use Rattle.formatter.proofs.Framed.{known}
 use Rattle.formatter.proofs.Whole.{template_fails, pieces_fail, pieces_read}
 use Rattle.formatter.proofs.parse.parse_formatter.Goals as goal
 
-pub returns-in-err-parts : goal.returns-in-err-parts
-returns-in-err-parts c =
+pub returns-in_err-parts : goal.returns-in_err-parts
+returns-in_err-parts c =
     let p = err_from_is_err_and c.from-residual.result c.from-residual.ensures.1 in
-    let e : seen_formatter c.from-residual.result ≡ formatter_read c.args.text.now = rw (p.1, p.2) (template_fails _ (formatter_at c.args.text.now) _ c.in-err-parts.ensures) in
+    let e : seen_formatter c.from-residual.result ≡ formatter_read c.args.text.now = rw (p.1, p.2) (template_fails _ (formatter_at c.args.text.now) _ c.in_err-parts.ensures) in
     record { exact = e; whole = whole_reading_lem c.args.text.now c.from-residual.result e; reading = read_as _ _ e; walk = outputs_walk }
 
-pub parse-pieces-requires : goal.parse-pieces-requires
-parse-pieces-requires c =
-    let k = known c.args.text.now c.in-ok-parts.parts c.in-ok-parts.ensures in
+pub parse_pieces-requires : goal.parse_pieces-requires
+parse_pieces-requires c =
+    let k = known c.args.text.now c.in_ok-parts.parts c.in_ok-parts.ensures in
     record { 0 = (omega arith, k.short); read = ap is_ok k.shapes }
 
-pub returns-in-err-max-capture : goal.returns-in-err-max-capture
-returns-in-err-max-capture c =
-    let p = err_from_is_err_and c.from-residual-in-err-max-capture.result c.from-residual-in-err-max-capture.ensures.1 in
-    let k = known c.args.text.now c.in-ok-parts.parts c.in-ok-parts.ensures in
-    let e : seen_formatter c.from-residual-in-err-max-capture.result ≡ formatter_read c.args.text.now = rw (p.1, p.2) (pieces_fail c.args.text.now c.in-ok-parts.parts k _ c.in-err-max-capture.ensures) in
-    record { exact = e; whole = whole_reading_lem c.args.text.now c.from-residual-in-err-max-capture.result e; reading = read_as _ _ e; walk = outputs_walk }
+pub returns-in_err-max_capture : goal.returns-in_err-max_capture
+returns-in_err-max_capture c =
+    let p = err_from_is_err_and c.from-residual-in_err-max_capture.result c.from-residual-in_err-max_capture.ensures.1 in
+    let k = known c.args.text.now c.in_ok-parts.parts c.in_ok-parts.ensures in
+    let e : seen_formatter c.from-residual-in_err-max_capture.result ≡ formatter_read c.args.text.now = rw (p.1, p.2) (pieces_fail c.args.text.now c.in_ok-parts.parts k _ c.in_err-max_capture.ensures) in
+    record { exact = e; whole = whole_reading_lem c.args.text.now c.from-residual-in_err-max_capture.result e; reading = read_as _ _ e; walk = outputs_walk }
 
 pub returns : goal.returns
 returns c =
-    let k = known c.args.text.now c.in-ok-parts.parts c.in-ok-parts.ensures in
-    let e = pieces_read c.args.text.now c.in-ok-parts.parts k c.in-ok-max-capture.max-capture c.in-ok-max-capture.ensures in
-    record { exact = e; whole = whole_reading_lem c.args.text.now (Ok (record { parts = c.in-ok-parts.parts; max_capture = c.in-ok-max-capture.max-capture })) e; reading = read_as _ _ e; walk = outputs_walk }
+    let k = known c.args.text.now c.in_ok-parts.parts c.in_ok-parts.ensures in
+    let e = pieces_read c.args.text.now c.in_ok-parts.parts k c.in_ok-max_capture.max_capture c.in_ok-max_capture.ensures in
+    record { exact = e; whole = whole_reading_lem c.args.text.now (Ok (record { parts = c.in_ok-parts.parts; max_capture = c.in_ok-max_capture.max_capture })) e; reading = read_as _ _ e; walk = outputs_walk }

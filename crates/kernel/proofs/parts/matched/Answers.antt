@@ -16,5 +16,5 @@ returns c =
     let e : 0 + length (map part_of l) ≡ length l = omega (arith, n) in
     record {
       answer = rw (fits, c.none.ensures, c.count-2.ensures) refl;
-      buffer = rw fits (c.put-parts.ensures ∙ sets-eq (map part_of l) b 0 (omega (arith, n, short)) ∙ ap (λ k. map part_of l ++ drop k b) e);
+      buffer = rw fits (c.put_parts.ensures ∙ sets-eq (map part_of l) b 0 (omega (arith, n, short)) ∙ ap (λ k. map part_of l ++ drop k b) e);
     }

@@ -7,19 +7,19 @@ use Rattle.listed.specs.Keeping.{kept-count}
 use Rattle.listed.proofs.Steps.{count-step, count_at_lem, told_text}
 use Rattle.listed.proofs.answers.find.Goals as goal
 
-pub returns-then-tells-of : goal.returns-then-tells-of
-returns-then-tells-of c =
+pub returns-then-tells_of : goal.returns-then-tells_of
+returns-then-tells_of c =
     let rows = c.args.rows.now in
     let t = c.args.text.now in
     let i = c.loop-i.i in
     let lt = c.loop-i-test.true in
     record {
-      told = (told_text rows t i lt c.if-tells-of.ensures, kept-count (map fact rows) t ∙ count-step rows t i lt _ c.if-tells-of.ensures c.loop-i.invariant ∙ sym (count_at_lem rows i lt));
+      told = (told_text rows t i lt c.if-tells_of.ensures, kept-count (map fact rows) t ∙ count-step rows t i lt _ c.if-tells_of.ensures c.loop-i.invariant ∙ sym (count_at_lem rows i lt));
       place = lt;
     }
 
 pub loop-i-preserved : goal.loop-i-preserved
-loop-i-preserved c = count-step c.args.rows.now c.args.text.now c.loop-i.i c.loop-i-test.true _ c.if-tells-of.ensures c.loop-i.invariant
+loop-i-preserved c = count-step c.args.rows.now c.args.text.now c.loop-i.i c.loop-i-test.true _ c.if-tells_of.ensures c.loop-i.invariant
 
 pub returns : goal.returns
 returns c = record {

@@ -11,7 +11,7 @@ returns-in-Some c =
     let t = c.args.text.now in
     let name = c.args.name.now in
     let g = c.in-Some.ensures in
-    c.spans-of.ensures ∙ sym (kept_spans fs t name ∙ ap (λ (o : Option ℕ). spans_with o fs t name) (sym (kept-count fs t) ∙ g.told.1 ∙ count_at_lem c.args.rows.now c.in-Some.i g.place))
+    c.spans_of.ensures ∙ sym (kept_spans fs t name ∙ ap (λ (o : Option ℕ). spans_with o fs t name) (sym (kept-count fs t) ∙ g.told.1 ∙ count_at_lem c.args.rows.now c.in-Some.i g.place))
 
 pub returns-in-None : goal.returns-in-None
 returns-in-None c =

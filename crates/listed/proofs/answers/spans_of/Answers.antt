@@ -6,11 +6,11 @@ use Rattle.listed.specs.Seen.{fact}
 use Rattle.listed.proofs.Steps.{spans_step}
 use Rattle.listed.proofs.answers.spans_of.Goals as goal
 
-pub returns-then-hits-on : goal.returns-then-hits-on
-returns-then-hits-on c = sym (spans_step c.args.rows.now c.args.text.now c.loop-i.i c.loop-i-test.true c.args.count c.args.name.now _ c.if-hits-on.ensures c.loop-i.invariant)
+pub returns-then-hits_on : goal.returns-then-hits_on
+returns-then-hits_on c = sym (spans_step c.args.rows.now c.args.text.now c.loop-i.i c.loop-i-test.true c.args.count c.args.name.now _ c.if-hits_on.ensures c.loop-i.invariant)
 
 pub loop-i-preserved : goal.loop-i-preserved
-loop-i-preserved c = spans_step c.args.rows.now c.args.text.now c.loop-i.i c.loop-i-test.true c.args.count c.args.name.now _ c.if-hits-on.ensures c.loop-i.invariant
+loop-i-preserved c = spans_step c.args.rows.now c.args.text.now c.loop-i.i c.loop-i-test.true c.args.count c.args.name.now _ c.if-hits_on.ensures c.loop-i.invariant
 
 pub returns : goal.returns
 returns c = sym (c.loop-i.invariant ∙ at_drop_all (λ (l : List AnswerRow). spans_for c.args.count (map fact l) c.args.text.now c.args.name.now) c.args.rows.now c.loop-i.i c.loop-i-test.false)

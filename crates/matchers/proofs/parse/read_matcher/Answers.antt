@@ -12,7 +12,7 @@ returns-then-closed c =
     let e = ends_last 41 c.args.text.now (omega arith) in
     let p : begins 40 c.args.text.now ≡ true = grind (arith, nat_tests) in
     let q : ends 41 c.args.text.now ≡ true = grind (arith, nat_tests) in
-    read_both c.args.text.now c.blanks-count.result _ p q c.blanks-count.ensures.value c.kind-of-then-closed.ensures
+    read_both c.args.text.now c.blanks-count.result _ p q c.blanks-count.ensures.value c.kind_of-then-closed.ensures
 
 pub returns-then-opened-2 : goal.returns-then-opened-2
 returns-then-opened-2 c =
@@ -36,4 +36,4 @@ returns c =
     let e = ends_last 41 c.args.text.now (omega arith) in
     let p : begins 40 c.args.text.now ≡ false = grind (arith, nat_tests) in
     let q : ends 41 c.args.text.now ≡ false = grind (arith, nat_tests) in
-    read_plain c.args.text.now _ p q c.kind-of-2.ensures
+    read_plain c.args.text.now _ p q c.kind_of-2.ensures

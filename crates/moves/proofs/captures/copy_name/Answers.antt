@@ -10,11 +10,11 @@ loop-i-preserved g c =
     let n = m.name c.args.term in
     let o = c.loop-i.out in
     let i = c.loop-i.i in
-    let q = item_there n i c.in-Some-name-byte.b (sym c.in-Some-name-byte.ensures) in
+    let q = item_there n i c.in-Some-name_byte.b (sym c.in-Some-name_byte.ensures) in
     let sh : length n ≤ 255 = m.short c.args.term in
     let h : i < length o = omega (arith, q.0) in (
       length-set o i _ ∙ c.loop-i.invariant.0,
-      take_more_set o i _ h ∙ ap (λ l. l ++ c.in-Some-name-byte.b ∷ []) c.loop-i.invariant.1 ∙ ap (λ x. take i n ++ x ∷ []) (sym q.1) ∙ sym (take_more n i 0 q.0),
+      take_more_set o i _ h ∙ ap (λ l. l ++ c.in-Some-name_byte.b ∷ []) c.loop-i.invariant.1 ∙ ap (λ x. take i n ++ x ∷ []) (sym q.1) ∙ sym (take_more n i 0 q.0),
     )
 
 pub returns : goal.returns

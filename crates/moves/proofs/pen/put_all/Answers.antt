@@ -5,11 +5,11 @@ use Rattle.moves.specs.Run.{at, run}
 use Rattle.moves.proofs.Runs.{broke, byte_more}
 use Rattle.moves.proofs.pen.put_all.Goals as goal
 
-pub returns-in-err-put : goal.returns-in-err-put
-returns-in-err-put c = broke c.from-residual.ensures.1 (byte_more c.args.text.now c.loop-b.b-index _ c.loop-b-test.true refl c.in-err-put.ensures ∙ c.loop-b.invariant)
+pub returns-in_err-put : goal.returns-in_err-put
+returns-in_err-put c = broke c.from-residual.ensures.1 (byte_more c.args.text.now c.loop-b.b-index _ c.loop-b-test.true refl c.in_err-put.ensures ∙ c.loop-b.invariant)
 
 pub loop-b-preserved : goal.loop-b-preserved
-loop-b-preserved c = byte_more c.args.text.now c.loop-b.b-index _ c.loop-b-test.true refl c.in-ok-put.ensures ∙ c.loop-b.invariant
+loop-b-preserved c = byte_more c.args.text.now c.loop-b.b-index _ c.loop-b-test.true refl c.in_ok-put.ensures ∙ c.loop-b.invariant
 
 pub returns : goal.returns
 returns c = sym (at_drop_all (λ bs. run (bytes bs) (at c.loop-b.buf c.loop-b.pen)) c.args.text.now c.loop-b.b-index c.loop-b-test.false) ∙ c.loop-b.invariant

@@ -9,13 +9,13 @@ loop-i-init c = (
   omega arith,
   λ j h k.
       let e : length c.args.items.now ≡ j = omega arith in
-      let P : ℕ → Type 0 = λ n. Row c.args.items.now c.args.name.now c.last-row.new.table n in
-      subst P e c.last-row.ensures,
+      let P : ℕ → Type 0 = λ n. Row c.args.items.now c.args.name.now c.last_row.new.table n in
+      subst P e c.last_row.ensures,
 )
 
-pub fill-row-requires : goal.fill-row-requires
-fill-row-requires c = record {
-  sizes = (omega arith, (omega (arith, c.last-row.auto.table), omega arith));
+pub fill_row-requires : goal.fill_row-requires
+fill_row-requires c = record {
+  sizes = (omega arith, (omega (arith, c.last_row.auto.table), omega arith));
   later = c.loop-i.invariant.1 (c.loop-i.i - 1 + 1) (omega arith) (omega arith);
 }
 
@@ -23,10 +23,10 @@ pub loop-i-preserved : goal.loop-i-preserved
 loop-i-preserved c = (
   omega arith,
   λ j h k.
-      let P : ℕ → Type 0 = λ n. Row c.args.items.now c.args.name.now c.fill-row.new.table n in
+      let P : ℕ → Type 0 = λ n. Row c.args.items.now c.args.name.now c.fill_row.new.table n in
       ⊎_elim
-      (λ lt. row_kept c.args.items.now c.args.name.now c.loop-i.table c.fill-row.new.table (256 * (c.loop-i.i - 1 + 1)) j (omega arith) c.fill-row.ensures.same (c.loop-i.invariant.1 j (omega arith) k))
-      (λ le. let e : c.loop-i.i - 1 ≡ j = omega arith in subst P e c.fill-row.ensures.row)
+      (λ lt. row_kept c.args.items.now c.args.name.now c.loop-i.table c.fill_row.new.table (256 * (c.loop-i.i - 1 + 1)) j (omega arith) c.fill_row.ensures.same (c.loop-i.invariant.1 j (omega arith) k))
+      (λ le. let e : c.loop-i.i - 1 ≡ j = omega arith in subst P e c.fill_row.ensures.row)
       (order (c.loop-i.i - 1) j),
 )
 

@@ -4,7 +4,7 @@ use Rattle.plain.proofs.descent.read.Goals as goal
 
 pub returns-then-end-text : goal.returns-then-end-text
 returns-then-end-text c =
-    let s = c.in-ok-end in
+    let s = c.in_ok-end in
     record {
       within = omega (arith, s.ensures.within);
       items = read_whole c.args.text.now s.end s.groups s.len c.inside.new.out (omega arith) (s.ensures.reads [] refl);
@@ -12,7 +12,7 @@ returns-then-end-text c =
 
 pub returns-else-end-text : goal.returns-else-end-text
 returns-else-end-text c =
-    let s = c.in-ok-end in
+    let s = c.in_ok-end in
     let w = s.ensures.within in
     let lt : s.end < length c.args.text.now = omega arith in
     record {

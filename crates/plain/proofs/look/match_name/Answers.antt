@@ -3,8 +3,8 @@ use Rattle.matching.proofs.Placing.{few_groups}
 use Rattle.plain.proofs.Matched.{found_spans, found_size}
 use Rattle.plain.proofs.look.match_name.Goals as goal
 
-pub invariant-of-result : goal.invariant-of-result
-invariant-of-result c =
+pub invariant_of-result : goal.invariant_of-result
+invariant_of-result c =
     let z : c.in-Some.len - 0 ≡ c.in-Some.len = omega arith in
     let items = take c.in-Some.len c.read.new.out in (
       found_size c.args.name.now items c.in-Some-find.places (rw z at c.in-Some-find.ensures),

@@ -16,5 +16,5 @@ returns-in-43 c = let a = at_drop_more times_at c.args.text.now c.args.at 0 (ome
 pub returns-in-63 : goal.returns-in-63
 returns-in-63 c = let a = at_drop_more times_at c.args.text.now c.args.at 0 (omega arith) in record { within = omega arith; times = grind (arith, nat_tests) }
 
-pub returns-in-default : goal.returns-in-default
-returns-in-default c = let a = at_drop_more times_at c.args.text.now c.args.at 0 (omega arith) in record { within = omega arith; times = grind (arith, nat_tests) }
+pub returns-in_default : goal.returns-in_default
+returns-in_default c = let a = at_drop_more times_at c.args.text.now c.args.at 0 (omega arith) in record { within = omega arith; times = grind (arith, nat_tests) }

@@ -13,19 +13,19 @@ returns-then-at-words c =
       value = one_end c.args.text.now c.args.at c.unpaired-words.result c.unpaired-words.ensures.value c.if-at-words.true;
     }
 
-pub returns-in-err-piece : goal.returns-in-err-piece
-returns-in-err-piece c =
+pub returns-in_err-piece : goal.returns-in_err-piece
+returns-in_err-piece c =
     let p = err_from_is_err_and c.from-residual.result c.from-residual.ensures.1 in
     rw (p.1, p.2) (record {
       within = tt;
       more = tt;
-      value = one_control c.args.text.now c.args.at c.unpaired-words.result (Err _) c.unpaired-words.ensures.value (omega (arith, rest_length c.args.text.now c.args.at)) c.in-err-piece.ensures.same;
+      value = one_control c.args.text.now c.args.at c.unpaired-words.result (Err _) c.unpaired-words.ensures.value (omega (arith, rest_length c.args.text.now c.args.at)) c.in_err-piece.ensures.same;
     })
 
 pub returns : goal.returns
 returns c =
     record {
-      within = omega (arith, c.in-ok-piece.ensures.within);
+      within = omega (arith, c.in_ok-piece.ensures.within);
       more = omega arith;
-      value = one_control c.args.text.now c.args.at c.unpaired-words.result (Ok (shape c.in-ok-piece.piece, c.in-ok-piece.used)) c.unpaired-words.ensures.value (omega (arith, rest_length c.args.text.now c.args.at)) c.in-ok-piece.ensures.same;
+      value = one_control c.args.text.now c.args.at c.unpaired-words.result (Ok (shape c.in_ok-piece.piece, c.in_ok-piece.used)) c.unpaired-words.ensures.value (omega (arith, rest_length c.args.text.now c.args.at)) c.in_ok-piece.ensures.same;
     }

@@ -5,18 +5,18 @@ use Rattle.templates.proofs.Ones.{rest_length}
 use Rattle.templates.proofs.Ways.{prefix_none, prefix_some}
 use Rattle.templates.proofs.frames.parse_prefix.Goals as goal
 
-pub returns-in-default-first-byte : goal.returns-in-default-first-byte
-returns-in-default-first-byte c =
+pub returns-in_default-first_byte : goal.returns-in_default-first_byte
+returns-in_default-first_byte c =
     let f : get_or c.args.text.now 0 0 ≡ 36 = omega arith in
-    record { within = tt; value = prefix_none c.args.text.now f c.in-default-first-byte.ensures.value }
+    record { within = tt; value = prefix_none c.args.text.now f c.in_default-first_byte.ensures.value }
 
-pub returns-in-err-left : goal.returns-in-err-left
-returns-in-err-left c =
+pub returns-in_err-left : goal.returns-in_err-left
+returns-in_err-left c =
     let f : get_or c.args.text.now 0 0 ≡ 36 = omega arith in
     let p = err_from_is_err_and c.from-residual.result c.from-residual.ensures.1 in
     rw (p.1, p.2) (record {
       within = tt;
-      value = prefix_some c.args.text.now c.in-Some.at (Err _) f c.in-Some.ensures.value c.in-err-left.ensures;
+      value = prefix_some c.args.text.now c.in-Some.at (Err _) f c.in-Some.ensures.value c.in_err-left.ensures;
     })
 
 pub returns : goal.returns
@@ -24,5 +24,5 @@ returns c =
     let f : get_or c.args.text.now 0 0 ≡ 36 = omega arith in
     record {
       within = omega (arith, rest_length c.args.text.now 1, c.in-Some.ensures.within);
-      value = prefix_some c.args.text.now c.in-Some.at (Ok c.in-ok-left.left) f c.in-Some.ensures.value c.in-ok-left.ensures;
+      value = prefix_some c.args.text.now c.in-Some.at (Ok c.in_ok-left.left) f c.in-Some.ensures.value c.in_ok-left.ensures;
     }

@@ -11,21 +11,21 @@ returns-then-end-from c =
     elim c.then-end-from.branch [ then-end-from-via-then-end-from w ↦ λ l e. omega arith | then-end-from-via-else-end-from+then-text-end-ne36 w ↦ λ l e. omega arith ] in
     record { within = omega arith; value = suffix_plain c.args.text.now c.args.from c.requires plain }
 
-pub returns-in-default : goal.returns-in-default
-returns-in-default c =
-    record { within = tt; value = suffix_none c.args.text.now c.args.from (omega arith) (omega arith) c.in-default.ensures.value }
+pub returns-in_default : goal.returns-in_default
+returns-in_default c =
+    record { within = tt; value = suffix_none c.args.text.now c.args.from (omega arith) (omega arith) c.in_default.ensures.value }
 
-pub returns-in-err-right : goal.returns-in-err-right
-returns-in-err-right c =
+pub returns-in_err-right : goal.returns-in_err-right
+returns-in_err-right c =
     let p = err_from_is_err_and c.from-residual.result c.from-residual.ensures.1 in
     rw (p.1, p.2) (record {
       within = tt;
-      value = suffix_some c.args.text.now c.args.from c.in-Some.at (Err _) (omega arith) (omega arith) c.in-Some.ensures.within c.in-Some.ensures.value c.in-err-right.ensures;
+      value = suffix_some c.args.text.now c.args.from c.in-Some.at (Err _) (omega arith) (omega arith) c.in-Some.ensures.within c.in-Some.ensures.value c.in_err-right.ensures;
     })
 
 pub returns : goal.returns
 returns c =
     record {
       within = omega (arith, length-take (length c.args.text.now - 1 - c.args.from) (drop c.args.from c.args.text.now), c.in-Some.ensures.within);
-      value = suffix_some c.args.text.now c.args.from c.in-Some.at (Ok c.in-ok-right.right) (omega arith) (omega arith) c.in-Some.ensures.within c.in-Some.ensures.value c.in-ok-right.ensures;
+      value = suffix_some c.args.text.now c.args.from c.in-Some.at (Ok c.in_ok-right.right) (omega arith) (omega arith) c.in-Some.ensures.within c.in-Some.ensures.value c.in_ok-right.ensures;
     }

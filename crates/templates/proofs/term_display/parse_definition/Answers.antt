@@ -14,13 +14,13 @@ pub returns-then-template-gt-TEMPLATE-LIMIT : goal.returns-then-template-gt-TEMP
 returns-then-template-gt-TEMPLATE-LIMIT c =
     template_long c.args.matcher.now c.args.template.now c.if-matcher-gt-MATCHER-LIMIT.false c.if-template-gt-TEMPLATE-LIMIT.true
 
-pub returns-in-err-read : goal.returns-in-err-read
-returns-in-err-read c =
+pub returns-in_err-read : goal.returns-in_err-read
+returns-in_err-read c =
     let p = err_from_is_err_and c.from-residual.result c.from-residual.ensures.1 in
-    ap seen_definition p.1 ∙ ap (λ (x : ParseError EitherError). Err x) p.2 ∙ matcher_refused c.args.matcher.now c.args.template.now c.if-matcher-gt-MATCHER-LIMIT.false c.if-template-gt-TEMPLATE-LIMIT.false _ c.in-err-read.ensures
+    ap seen_definition p.1 ∙ ap (λ (x : ParseError EitherError). Err x) p.2 ∙ matcher_refused c.args.matcher.now c.args.template.now c.if-matcher-gt-MATCHER-LIMIT.false c.if-template-gt-TEMPLATE-LIMIT.false _ c.in_err-read.ensures
 
 pub returns : goal.returns
 returns c =
-    let w : ((matched c.in-ok-read.read).pattern ≡ true) ⊎ (c.in-ok-formatter.formatter.max_capture ≡ None) =
-    elim c.match-read.branch [ in-Exact·+in-None· w ↦ inr (cc) | in-Regex· w ↦ inl (let k : c.in-ok-read.read.kind ≡ Regex = cc in rw k) ] in
-    both_accepted c.args.matcher.now c.args.template.now c.if-matcher-gt-MATCHER-LIMIT.false c.if-template-gt-TEMPLATE-LIMIT.false (matched c.in-ok-read.read) (seen c.in-ok-formatter.formatter) c.in-ok-read.ensures c.in-ok-formatter.ensures w
+    let w : ((matched c.in_ok-read.read).pattern ≡ true) ⊎ (c.in_ok-formatter.formatter.max_capture ≡ None) =
+    elim c.match-read.branch [ in-Exact·+in-None· w ↦ inr (cc) | in-Regex· w ↦ inl (let k : c.in_ok-read.read.kind ≡ Regex = cc in rw k) ] in
+    both_accepted c.args.matcher.now c.args.template.now c.if-matcher-gt-MATCHER-LIMIT.false c.if-template-gt-TEMPLATE-LIMIT.false (matched c.in_ok-read.read) (seen c.in_ok-formatter.formatter) c.in_ok-read.ensures c.in_ok-formatter.ensures w

@@ -11,6 +11,6 @@ returns-then-needed-out c =
 pub returns : goal.returns
 returns c =
     let p =
-    fits c.args.code.now c.args.out.now c.put-template.new.out c.count-needed.result (back c.args.code.now c.requires) c.count-needed.ensures c.if-needed-out.false
-    (ap (λ (s : State). s.buffer) c.put-template.ensures) in
+    fits c.args.code.now c.args.out.now c.put_template.new.out c.count-needed.result (back c.args.code.now c.requires) c.count-needed.ensures c.if-needed-out.false
+    (ap (λ (s : State). s.buffer) c.put_template.ensures) in
     record { answer = p.0; buffer = p.1 }

@@ -2,8 +2,8 @@ use Rattle.std.proofs.Common.{Err, sym, ap, ◌∙◌}
 use Rattle.written.proofs.Whole.{no_code}
 use Rattle.written.proofs.back.put_checked.Goals as goal
 
-pub put-back-requires : goal.put-back-requires
-put-back-requires c = sym c.in-Ok.ensures.accepts
+pub put_back-requires : goal.put_back-requires
+put_back-requires c = sym c.in-Ok.ensures.accepts
 
 pub returns-in-Err : goal.returns-in-Err
 returns-in-Err c =

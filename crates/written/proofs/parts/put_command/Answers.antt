@@ -4,4 +4,4 @@ use Rattle.written.specs.Pens.{held}
 
 pub returns-in-Range : goal.returns-in-Range
 returns-in-Range c =
-    ranged c.args.inside c.args.waits c.args.command c.in-Range.from c.in-Range.to c.in-Range.left c.in-Range.middle-left c.in-Range.middle-right c.in-Range.right _ (held c.args.out.now c.args.pen.now) (held c.put-range.new.out c.put-range.new.pen) (held c.put-powers.new.out c.put-powers.new.pen) c.in-Range.is c.put-range.ensures c.put-powers.ensures
+    ranged c.args.inside c.args.waits c.args.command c.in-Range.from c.in-Range.to c.in-Range.left c.in-Range.middle_left c.in-Range.middle_right c.in-Range.right _ (held c.args.out.now c.args.pen.now) (held c.put_range.new.out c.put_range.new.pen) (held c.put_powers.new.out c.put_powers.new.pen) c.in-Range.is c.put_range.ensures c.put_powers.ensures

@@ -7,4 +7,4 @@ use Rattle.written.specs.Pens.{inks, held}
 pub returns : goal.returns
 returns c =
     let f : SFits w32 c.args.index.0 = search rules in
-    c.put-numeral.ensures ∙ ap (λ n. inks (numeral n) (held c.args.out.now c.args.pen.now)) (cast_bits c.args.index.0 c.cast-unsigned.result f c.cast-unsigned.ensures)
+    c.put_numeral.ensures ∙ ap (λ n. inks (numeral n) (held c.args.out.now c.args.pen.now)) (cast_bits c.args.index.0 c.cast_unsigned.result f c.cast_unsigned.ensures)

@@ -8,5 +8,5 @@ pub returns-then-stands : goal.returns-then-stands
 returns-then-stands c =
     when _ _ (held c.args.out.now c.args.pen.now) (held c.put-then-stands.new.out c.put-then-stands.new.pen) c.if-stands.true
     (then (36 ∷ []) (numeral c.args.power ++ (36 ∷ [])) (held c.args.out.now c.args.pen.now) (held c.put.new.out c.put.new.pen) (held c.put-then-stands.new.out c.put-then-stands.new.pen) c.put.ensures
-    (then (numeral c.args.power) (36 ∷ []) (held c.put.new.out c.put.new.pen) (held c.put-numeral.new.out c.put-numeral.new.pen) (held c.put-then-stands.new.out c.put-then-stands.new.pen) c.put-numeral.ensures
+    (then (numeral c.args.power) (36 ∷ []) (held c.put.new.out c.put.new.pen) (held c.put_numeral.new.out c.put_numeral.new.pen) (held c.put-then-stands.new.out c.put-then-stands.new.pen) c.put_numeral.ensures
     c.put-then-stands.ensures))

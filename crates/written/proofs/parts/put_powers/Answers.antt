@@ -6,12 +6,12 @@ use Rattle.written.specs.Pens.{held}
 
 pub returns : goal.returns
 returns c =
-    otherwise _ [] _ (held c.args.out.now c.args.pen.now) (held c.put-numeral-4.new.out c.put-numeral-4.new.pen) (sym c.all-zero.ensures ∙ c.if-all-zero.false)
-    (then (124 ∷ []) (numeral c.args.left ++ (124 ∷ [] ++ (numeral c.args.middle-left ++ (44 ∷ [] ++ (numeral c.args.middle-right ++ (124 ∷ [] ++ (numeral c.args.right))))))) (held c.args.out.now c.args.pen.now) (held c.put.new.out c.put.new.pen) (held c.put-numeral-4.new.out c.put-numeral-4.new.pen) c.put.ensures
-    (then (numeral c.args.left) (124 ∷ [] ++ (numeral c.args.middle-left ++ (44 ∷ [] ++ (numeral c.args.middle-right ++ (124 ∷ [] ++ (numeral c.args.right)))))) (held c.put.new.out c.put.new.pen) (held c.put-numeral.new.out c.put-numeral.new.pen) (held c.put-numeral-4.new.out c.put-numeral-4.new.pen) c.put-numeral.ensures
-    (then (124 ∷ []) (numeral c.args.middle-left ++ (44 ∷ [] ++ (numeral c.args.middle-right ++ (124 ∷ [] ++ (numeral c.args.right))))) (held c.put-numeral.new.out c.put-numeral.new.pen) (held c.put-2.new.out c.put-2.new.pen) (held c.put-numeral-4.new.out c.put-numeral-4.new.pen) c.put-2.ensures
-    (then (numeral c.args.middle-left) (44 ∷ [] ++ (numeral c.args.middle-right ++ (124 ∷ [] ++ (numeral c.args.right)))) (held c.put-2.new.out c.put-2.new.pen) (held c.put-numeral-2.new.out c.put-numeral-2.new.pen) (held c.put-numeral-4.new.out c.put-numeral-4.new.pen) c.put-numeral-2.ensures
-    (then (44 ∷ []) (numeral c.args.middle-right ++ (124 ∷ [] ++ (numeral c.args.right))) (held c.put-numeral-2.new.out c.put-numeral-2.new.pen) (held c.put-3.new.out c.put-3.new.pen) (held c.put-numeral-4.new.out c.put-numeral-4.new.pen) c.put-3.ensures
-    (then (numeral c.args.middle-right) (124 ∷ [] ++ (numeral c.args.right)) (held c.put-3.new.out c.put-3.new.pen) (held c.put-numeral-3.new.out c.put-numeral-3.new.pen) (held c.put-numeral-4.new.out c.put-numeral-4.new.pen) c.put-numeral-3.ensures
-    (then (124 ∷ []) (numeral c.args.right) (held c.put-numeral-3.new.out c.put-numeral-3.new.pen) (held c.put-4.new.out c.put-4.new.pen) (held c.put-numeral-4.new.out c.put-numeral-4.new.pen) c.put-4.ensures
-    c.put-numeral-4.ensures)))))))
+    otherwise _ [] _ (held c.args.out.now c.args.pen.now) (held c.put_numeral-4.new.out c.put_numeral-4.new.pen) (sym c.all_zero.ensures ∙ c.if-all_zero.false)
+    (then (124 ∷ []) (numeral c.args.left ++ (124 ∷ [] ++ (numeral c.args.middle_left ++ (44 ∷ [] ++ (numeral c.args.middle_right ++ (124 ∷ [] ++ (numeral c.args.right))))))) (held c.args.out.now c.args.pen.now) (held c.put.new.out c.put.new.pen) (held c.put_numeral-4.new.out c.put_numeral-4.new.pen) c.put.ensures
+    (then (numeral c.args.left) (124 ∷ [] ++ (numeral c.args.middle_left ++ (44 ∷ [] ++ (numeral c.args.middle_right ++ (124 ∷ [] ++ (numeral c.args.right)))))) (held c.put.new.out c.put.new.pen) (held c.put_numeral.new.out c.put_numeral.new.pen) (held c.put_numeral-4.new.out c.put_numeral-4.new.pen) c.put_numeral.ensures
+    (then (124 ∷ []) (numeral c.args.middle_left ++ (44 ∷ [] ++ (numeral c.args.middle_right ++ (124 ∷ [] ++ (numeral c.args.right))))) (held c.put_numeral.new.out c.put_numeral.new.pen) (held c.put-2.new.out c.put-2.new.pen) (held c.put_numeral-4.new.out c.put_numeral-4.new.pen) c.put-2.ensures
+    (then (numeral c.args.middle_left) (44 ∷ [] ++ (numeral c.args.middle_right ++ (124 ∷ [] ++ (numeral c.args.right)))) (held c.put-2.new.out c.put-2.new.pen) (held c.put_numeral-2.new.out c.put_numeral-2.new.pen) (held c.put_numeral-4.new.out c.put_numeral-4.new.pen) c.put_numeral-2.ensures
+    (then (44 ∷ []) (numeral c.args.middle_right ++ (124 ∷ [] ++ (numeral c.args.right))) (held c.put_numeral-2.new.out c.put_numeral-2.new.pen) (held c.put-3.new.out c.put-3.new.pen) (held c.put_numeral-4.new.out c.put_numeral-4.new.pen) c.put-3.ensures
+    (then (numeral c.args.middle_right) (124 ∷ [] ++ (numeral c.args.right)) (held c.put-3.new.out c.put-3.new.pen) (held c.put_numeral-3.new.out c.put_numeral-3.new.pen) (held c.put_numeral-4.new.out c.put_numeral-4.new.pen) c.put_numeral-3.ensures
+    (then (124 ∷ []) (numeral c.args.right) (held c.put_numeral-3.new.out c.put_numeral-3.new.pen) (held c.put-4.new.out c.put-4.new.pen) (held c.put_numeral-4.new.out c.put_numeral-4.new.pen) c.put-4.ensures
+    c.put_numeral-4.ensures)))))))

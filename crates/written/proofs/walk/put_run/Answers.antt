@@ -7,5 +7,5 @@ use Rattle.written.specs.Spelled.{run_back}
 
 pub run-preserved : goal.run-preserved
 run-preserved c =
-    ap (λ b. inks (run_back b (ahead c.args.code.now c.in-Some.next)) (held c.put-command.new.out c.put-command.new.pen)) c.is-step-waits.ensures
-    ∙ run_more c.run.waits c.in-Some.command (ahead c.args.code.now c.run.place) (ahead c.args.code.now c.in-Some.next) (held c.run.out c.run.pen) (held c.put-command.new.out c.put-command.new.pen) _ c.in-Some.ensures.first (sym c.is-over.ensures ∙ c.if-is-over.false) c.put-command.ensures c.run.invariant
+    ap (λ b. inks (run_back b (ahead c.args.code.now c.in-Some.next)) (held c.put_command.new.out c.put_command.new.pen)) c.is_step-waits.ensures
+    ∙ run_more c.run.waits c.in-Some.command (ahead c.args.code.now c.run.place) (ahead c.args.code.now c.in-Some.next) (held c.run.out c.run.pen) (held c.put_command.new.out c.put_command.new.pen) _ c.in-Some.ensures.first (sym c.is_over.ensures ∙ c.if-is_over.false) c.put_command.ensures c.run.invariant

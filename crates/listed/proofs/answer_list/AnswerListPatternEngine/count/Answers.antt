@@ -5,14 +5,14 @@ use Rattle.listed.specs.Seen.{facts_of}
 use Rattle.listed.proofs.Steps.{text_at_lem}
 use Rattle.listed.proofs.answer_list.AnswerListPatternEngine.count.Goals as goal
 
-pub returns-in-Some-count-of : goal.returns-in-Some-count-of
-returns-in-Some-count-of c =
+pub returns-in-Some-count_of : goal.returns-in-Some-count_of
+returns-in-Some-count_of c =
     let a = c.args.self.now in
     let f = c.in-Some.ensures in
-    sym (ap (count_of (rule_of (facts_of a))) (sym f.held ∙ text_at_lem a.rows.now c.in-Some.i f.place.0) ∙ ap counted (sym c.in-Some-count-of.ensures))
+    sym (ap (count_of (rule_of (facts_of a))) (sym f.held ∙ text_at_lem a.rows.now c.in-Some.i f.place.0) ∙ ap counted (sym c.in-Some-count_of.ensures))
 
-pub returns-in-None-count-of : goal.returns-in-None-count-of
-returns-in-None-count-of c =
+pub returns-in-None-count_of : goal.returns-in-None-count_of
+returns-in-None-count_of c =
     let a = c.args.self.now in
     let f = c.in-Some.ensures in
-    sym (ap (count_of (rule_of (facts_of a))) (sym f.held ∙ text_at_lem a.rows.now c.in-Some.i f.place.0) ∙ ap counted (sym c.in-None-count-of.ensures))
+    sym (ap (count_of (rule_of (facts_of a))) (sym f.held ∙ text_at_lem a.rows.now c.in-Some.i f.place.0) ∙ ap counted (sym c.in-None-count_of.ensures))

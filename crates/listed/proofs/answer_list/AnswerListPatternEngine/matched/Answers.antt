@@ -9,4 +9,4 @@ pub returns-in-Some : goal.returns-in-Some
 returns-in-Some c =
     let a = c.args.self.now in
     let f = c.in-Some.ensures in
-    ap Ok c.match-of.ensures ∙ sym (ap (λ (h : Option (List ℕ)). match_of (rule_of (facts_of a)) h c.args.name.now) (sym f.held ∙ text_at_lem a.rows.now c.in-Some.i f.place.0))
+    ap Ok c.match_of.ensures ∙ sym (ap (λ (h : Option (List ℕ)). match_of (rule_of (facts_of a)) h c.args.name.now) (sym f.held ∙ text_at_lem a.rows.now c.in-Some.i f.place.0))

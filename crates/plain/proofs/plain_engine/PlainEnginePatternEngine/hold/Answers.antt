@@ -16,6 +16,6 @@ returns-in-Some-free c =
     let low : i < 16 = omega (arith, found.0, c.args.self.now.sixteen) in
     record {
       fixed = record { rules = refl; sizes = refl };
-      refusal = prepared_room (plain_count c.args.text.now) (tally 16 (held_in ss)) 16 (ap is_some (sym c.count-groups.ensures) ∙ c.if-is-none.ensures) (tally_free 16 i (held_in ss) low found.1);
+      refusal = prepared_room (plain_count c.args.text.now) (tally 16 (held_in ss)) 16 (ap is_some (sym c.count_groups.ensures) ∙ c.if-is_none.ensures) (tally_free 16 i (held_in ss) low found.1);
       cases = record { free = found.1; holds = held_same ss i s found.0 ∙ ap Some c.in-Some.ensures; others = λ k ne. held_other ss i s k ne };
     }

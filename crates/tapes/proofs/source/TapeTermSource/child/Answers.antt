@@ -5,8 +5,8 @@ use Rattle.tapes.proofs.source.TapeTermSource.child.Goals as goal
 pub returns-then-i-self : goal.returns-then-i-self
 returns-then-i-self c = child_past c.args.self.now c.args.t (omega arith) c.args.i c.if-i-self.true
 
-pub overflow-add-start : goal.overflow-add-start
-overflow-add-start c = let e = end_small c.args.self.now c.args.t (omega arith) c.index-start.result.now c.index-start.ensures in let l = c.if-i-self.false in omega arith
+pub overflow_add-start : goal.overflow_add-start
+overflow_add-start c = let e = end_small c.args.self.now c.args.t (omega arith) c.index-start.result.now c.index-start.ensures in let l = c.if-i-self.false in omega arith
 
 pub index-requires : goal.index-requires
 index-requires c = let e = end_within c.args.self.now c.args.t (omega arith) c.index-start.result.now c.index-start.ensures in let l = c.if-i-self.false in omega arith

@@ -6,12 +6,12 @@ use Rattle.tapes.specs.Roots.{children_of}
 use Rattle.tapes.proofs.Laid.{laid_within, laid_at, laid_length}
 use Rattle.tapes.proofs.tape.Tape.open.Goals as goal
 
-pub invariant-of-result : goal.invariant-of-result
-invariant-of-result c =
+pub invariant_of-result : goal.invariant_of-result
+invariant_of-result c =
     let n = c.beginning-count.result in
     let b = c.beginning-count.ensures in
-    let f = c.in-ok-starts.field-0 in
-    let laid = c.in-ok-starts.ensures in
+    let f = c.in_ok-starts.field-0 in
+    let laid = c.in_ok-starts.ensures in
     let k = count_at c.args.nodes.now in (
       omega (arith, laid.count, b.within),
       (
@@ -31,8 +31,8 @@ returns c =
     let nodes = c.args.nodes.now in
     let n = c.beginning-count.result in
     let b = c.beginning-count.ensures in
-    let f = c.in-ok-starts.field-0 in
-    let laid = c.in-ok-starts.ensures in
+    let f = c.in_ok-starts.field-0 in
+    let laid = c.in_ok-starts.ensures in
     record {
       opens =
           opens_source (Lawful nodes) (length nodes) _ (name_at nodes) (children_of (count_at nodes)) _ _

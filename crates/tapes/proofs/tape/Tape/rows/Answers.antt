@@ -13,8 +13,8 @@ loop-t-preserved c =
     let rows = vec_items c.loop-t.rows in
     let after = vec_items c.push.new.self in
     let n = sym c.loop-t.rows.ok.0 ∙ c.loop-t.invariant.0 in
-    let e = c.in-ok-push.ensures.items in (
-      omega (arith, c.in-ok-push.ensures.len, c.loop-t.invariant.0),
+    let e = c.in_ok-push.ensures.items in (
+      omega (arith, c.in_ok-push.ensures.len, c.loop-t.invariant.0),
       rows_more (λ (r : Row). r.name.now) (tape_view s).name rows after c.row.result t n e c.loop-t.invariant.1 c.row.ensures.name,
       rows_more (λ (r : Row). r.children.now) (tape_view s).children rows after c.row.result t n e c.loop-t.invariant.2 c.row.ensures.children,
     )
