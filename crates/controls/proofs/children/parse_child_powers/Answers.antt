@@ -7,7 +7,7 @@ use Rattle.controls.proofs.children.parse_child_powers.Goals as goal
 pub returns-in_err-pair : goal.returns-in_err-pair
 returns-in_err-pair c =
     let t = c.args.text.now in
-    let p = err_from_is_err_and c.from-residual.result c.from-residual.ensures.1 in
+    let p = err_from_is_err_and c.from_residual.result c.from_residual.ensures.1 in
     rw (p.1, p.2)
     (other _ _ c.args.bar (length t) (omega arith) (fails _ _ _ (rest (pair_at _) t _ c.in_err-pair.ensures)))
 

@@ -12,7 +12,7 @@ returns-in_err-bind_power c =
     let t = c.args.text.now in
     let u = up_to 124 t in
     let e : c.end_of-bar.result ≡ u = omega arith in
-    let p = err_from_is_err_and c.from-residual-in_err-bind_power.result c.from-residual-in_err-bind_power.ensures.1 in
+    let p = err_from_is_err_and c.from_residual-in_err-bind_power.result c.from_residual-in_err-bind_power.ensures.1 in
     rw (p.1, p.2)
     (goes _ _ _ (front (path_at _) t c.end_of-bar.result u e c.in_ok-index.ensures)
     (fails _ _ _ (c.in_err-bind_power.ensures ∙ ap (child_powers _ t) e)))

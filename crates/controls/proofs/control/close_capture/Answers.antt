@@ -7,7 +7,7 @@ use Rattle.controls.proofs.control.close_capture.Goals as goal
 
 pub returns-in_err-piece : goal.returns-in_err-piece
 returns-in_err-piece c =
-    let p = err_from_is_err_and c.from-residual.result c.from-residual.ensures.1 in
+    let p = err_from_is_err_and c.from_residual.result c.from_residual.ensures.1 in
     rw (p.1, p.2) (record { within = tt; same = inside_fails 125 Curly capture_at _ c.args.text.now _ c.in-Some.ensures.first _ c.in_err-piece.ensures })
 
 pub returns : goal.returns

@@ -5,7 +5,7 @@ use Rattle.controls.proofs.paths.parse_path.Goals as goal
 
 pub returns-in_err-value : goal.returns-in_err-value
 returns-in_err-value c =
-    let p = err_from_is_err_and c.from-residual.result c.from-residual.ensures.1 in
+    let p = err_from_is_err_and c.from_residual.result c.from_residual.ensures.1 in
     rw (p.1, p.2) (sym (fails _ c.loop-value.left _ _ c.args.text.now c.end_of-end.ensures.first (omega arith) (omega arith) _ (sym c.in_err-value.ensures)) ∙ c.loop-value.invariant.2)
 
 pub returns-then-end-text : goal.returns-then-end-text

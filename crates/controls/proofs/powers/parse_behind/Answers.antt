@@ -9,7 +9,7 @@ pub returns-in_err-two : goal.returns-in_err-two
 returns-in_err-two c =
     let t = c.args.text.now in
     let u = up_to 124 t in
-    let p = err_from_is_err_and c.from-residual.result c.from-residual.ensures.1 in
+    let p = err_from_is_err_and c.from_residual.result c.from_residual.ensures.1 in
     rw (p.1, p.2)
     (fails _ _ _ (front (pair_at _) t c.end_of-bar.result u (omega arith) c.in_err-two.ensures))
 
@@ -17,7 +17,7 @@ pub returns-in_err-third : goal.returns-in_err-third
 returns-in_err-third c =
     let t = c.args.text.now in
     let u = up_to 124 t in
-    let p = err_from_is_err_and c.from-residual-in_err-third.result c.from-residual-in_err-third.ensures.1 in
+    let p = err_from_is_err_and c.from_residual-in_err-third.result c.from_residual-in_err-third.ensures.1 in
     rw (p.1, p.2)
     (goes _ _ _ (front (pair_at _) t c.end_of-bar.result u (omega arith) c.in_ok-two.ensures)
     (other _ _ u (length t) (omega arith) (fails _ _ _ (behind last_field c.args.place t c.end_of-bar.result u (omega arith) c.in_err-third.ensures))))

@@ -8,6 +8,6 @@ pub returns-in_err-two : goal.returns-in_err-two
 returns-in_err-two c =
     let t = c.args.text.now in
     let u = up_to 124 t in
-    let p = err_from_is_err_and c.from-residual.result c.from-residual.ensures.1 in
+    let p = err_from_is_err_and c.from_residual.result c.from_residual.ensures.1 in
     rw (p.1, p.2)
     (same _ _ u (length t) (omega arith) (fails _ _ _ c.in_err-two.ensures))

@@ -10,7 +10,7 @@ pub returns-in_err-both : goal.returns-in_err-both
 returns-in_err-both c =
     let t = c.args.text.now in
     let u = up_to 44 t in
-    let p = err_from_is_err_and c.from-residual.result c.from-residual.ensures.1 in
+    let p = err_from_is_err_and c.from_residual.result c.from_residual.ensures.1 in
     rw (p.1, p.2)
     (same _ _ u (length t) (omega arith) (fails _ _ _ c.in_err-both.ensures))
 
@@ -18,7 +18,7 @@ pub returns-in_err-left : goal.returns-in_err-left
 returns-in_err-left c =
     let t = c.args.text.now in
     let u = up_to 44 t in
-    let p = err_from_is_err_and c.from-residual-in_err-left.result c.from-residual-in_err-left.ensures.1 in
+    let p = err_from_is_err_and c.from_residual-in_err-left.result c.from_residual-in_err-left.ensures.1 in
     rw (p.1, p.2)
     (other _ _ u (length t) (omega arith) (fails _ _ _ (front (power_at _) t c.end_of-comma.result u (omega arith) c.in_err-left.ensures)))
 

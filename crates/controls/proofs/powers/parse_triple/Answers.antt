@@ -9,7 +9,7 @@ pub returns-in_err-two : goal.returns-in_err-two
 returns-in_err-two c =
     let t = c.args.text.now in
     let u = up_to 124 t in
-    let p = err_from_is_err_and c.from-residual.result c.from-residual.ensures.1 in
+    let p = err_from_is_err_and c.from_residual.result c.from_residual.ensures.1 in
     rw (p.1, p.2)
     (fails _ _ _ (front (pair_at _) t c.end_of-bar.result u (omega arith) c.in_err-two.ensures))
 
@@ -31,7 +31,7 @@ pub returns-in_err-last : goal.returns-in_err-last
 returns-in_err-last c =
     let t = c.args.text.now in
     let u = up_to 124 t in
-    let p = err_from_is_err_and c.from-residual-in_err-last.result c.from-residual-in_err-last.ensures.1 in
+    let p = err_from_is_err_and c.from_residual-in_err-last.result c.from_residual-in_err-last.ensures.1 in
     rw (p.1, p.2)
     (goes _ _ _ (front (pair_at _) t c.end_of-bar.result u (omega arith) c.in_ok-two.ensures)
     (other _ _ u (length t) (omega arith) (taken _ _ c.in_ok-two.two c.if-two-2.true (fails _ _ _ (behind last_field c.args.place t c.end_of-bar.result u (omega arith) c.in_err-last.ensures)))))

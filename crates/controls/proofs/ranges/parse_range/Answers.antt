@@ -8,7 +8,7 @@ pub returns-in_err-from : goal.returns-in_err-from
 returns-in_err-from c =
     let t = c.args.text.now in
     let at = c.in-Some.at in
-    let p = err_from_is_err_and c.from-residual.result c.from-residual.ensures.1 in
+    let p = err_from_is_err_and c.from_residual.result c.from_residual.ensures.1 in
     rw (p.1, p.2)
     (finds _ _ _ _ c.in-Some.ensures.first
     (fails _ _ _ (front (path_at _) t at at refl c.in_err-from.ensures)))
@@ -17,7 +17,7 @@ pub returns-in_err-to : goal.returns-in_err-to
 returns-in_err-to c =
     let t = c.args.text.now in
     let at = c.in-Some.at in
-    let p = err_from_is_err_and c.from-residual-in_err-to.result c.from-residual-in_err-to.ensures.1 in
+    let p = err_from_is_err_and c.from_residual-in_err-to.result c.from_residual-in_err-to.ensures.1 in
     rw (p.1, p.2)
     (finds _ _ _ _ c.in-Some.ensures.first
     (goes _ _ _ (front (path_at _) t at at refl c.in_ok-from.ensures)

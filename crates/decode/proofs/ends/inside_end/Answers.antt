@@ -5,7 +5,7 @@ use Rattle.decode.proofs.ends.inside_end.Goals as goal
 
 pub returns-in_err-command : goal.returns-in_err-command
 returns-in_err-command c =
-    rw c.from-residual.ensures
+    rw c.from_residual.ensures
     (record { within = omega arith; further = omega arith; value = inside_none c.args.code.now c.run.at c.args.suffixed c.run.walk c.run.closed c.in_err-command.ensures.value ∙ c.run.invariant.2 })
 
 pub returns-then-may_end : goal.returns-then-may_end
@@ -30,7 +30,7 @@ returns-in-End c = record {
 
 pub returns-in_err-walk : goal.returns-in_err-walk
 returns-in_err-walk c =
-    rw c.from-residual-in_err-walk.ensures
+    rw c.from_residual-in_err-walk.ensures
     (record {
       within = omega arith;
       further = omega arith;

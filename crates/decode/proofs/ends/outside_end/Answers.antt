@@ -4,7 +4,7 @@ use Rattle.decode.proofs.ends.outside_end.Goals as goal
 
 pub returns-in_err-command : goal.returns-in_err-command
 returns-in_err-command c =
-    rw c.from-residual.ensures
+    rw c.from_residual.ensures
     (record { within = omega arith; value = outside-none c.args.code.now c.run.at c.run.walk c.in_err-command.ensures.value ∙ c.run.invariant.2 })
 
 pub returns-then-may_end : goal.returns-then-may_end
@@ -27,7 +27,7 @@ returns-in-End c = record {
 
 pub returns-in_err-walk : goal.returns-in_err-walk
 returns-in_err-walk c =
-    rw c.from-residual-in_err-walk.ensures
+    rw c.from_residual-in_err-walk.ensures
     (record {
       within = omega arith;
       value = outside_stops c.args.code.now c.run.at c.run.walk c.in_ok-command.command c.in_ok-command.operands_end c.in_ok-command.ensures.value c.in_default.not-End c.in_err-walk.ensures.value ∙ c.run.invariant.2;
@@ -35,7 +35,7 @@ returns-in_err-walk c =
 
 pub returns-in_err-at : goal.returns-in_err-at
 returns-in_err-at c =
-    rw c.from-residual-in_err-at.ensures
+    rw c.from_residual-in_err-at.ensures
     (record {
       within = omega arith;
       value = outside-goes c.args.code.now c.run.at c.run.walk c.in_ok-command.command c.in_ok-command.operands_end (Some c.in_ok-walk.walk) None c.in_ok-command.ensures.value c.in_default.not-End c.in_ok-walk.ensures.value c.in_err-at.ensures.value ∙ c.run.invariant.2;

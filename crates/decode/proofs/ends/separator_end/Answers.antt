@@ -4,7 +4,7 @@ use Rattle.decode.proofs.ends.separator_end.Goals as goal
 
 pub returns-in_err-right : goal.returns-in_err-right
 returns-in_err-right c =
-    rw c.from-residual.ensures
+    rw c.from_residual.ensures
     (record { within = omega arith; further = omega arith; value = separator_by c.args.code.now c.args.place None c.in_err-right.ensures.value })
 
 pub returns-in-Power-default : goal.returns-in-Power-default

@@ -3,7 +3,7 @@ use Rattle.decode.proofs.Places.{template_by, template_rest}
 use Rattle.decode.proofs.ends.template_end.Goals as goal
 
 pub returns-in_err-next : goal.returns-in_err-next
-returns-in_err-next c = rw c.from-residual.ensures (record { within = omega arith; value = template_by c.args.code.now None c.in_err-next.ensures.value })
+returns-in_err-next c = rw c.from_residual.ensures (record { within = omega arith; value = template_by c.args.code.now None c.in_err-next.ensures.value })
 
 pub returns-in-Power-default : goal.returns-in-Power-default
 returns-in-Power-default c = record {

@@ -8,7 +8,7 @@ use Rattle.displays.proofs.check.check_definition.Goals as goal
 
 pub returns-in_err-display : goal.returns-in_err-display
 returns-in_err-display g c =
-    let p = err_from_is_err_and c.from-residual.result c.from-residual.ensures.1 in
+    let p = err_from_is_err_and c.from_residual.result c.from_residual.ensures.1 in
     record {
       fixed = record { rules = refl; sizes = refl };
       refusal = rw (p.1, p.2) (definition_refused (g.E.PatternEngine.view c.args.engine.now) c.args.matcher.now c.args.template.now _ c.in_err-display.ensures);
@@ -17,7 +17,7 @@ returns-in_err-display g c =
 
 pub returns-in_err-check_captures : goal.returns-in_err-check_captures
 returns-in_err-check_captures g c =
-    let p = err_from_is_err_and c.from-residual-in_err-check_captures.result c.from-residual-in_err-check_captures.ensures.1 in
+    let p = err_from_is_err_and c.from_residual-in_err-check_captures.result c.from_residual-in_err-check_captures.ensures.1 in
     let v = g.E.PatternEngine.view c.args.engine.now in
     let d = c.in_ok-display.display in
     let e = rest_exact v (matched d.matcher) c.args.template.now (ap is_pattern c.in-Exact.is) in
@@ -29,7 +29,7 @@ returns-in_err-check_captures g c =
 
 pub returns-in_err-ticket : goal.returns-in_err-ticket
 returns-in_err-ticket g c =
-    let p = err_from_is_err_and c.from-residual-in_err-ticket.result c.from-residual-in_err-ticket.ensures.1 in
+    let p = err_from_is_err_and c.from_residual-in_err-ticket.result c.from_residual-in_err-ticket.ensures.1 in
     let v = g.E.PatternEngine.view c.args.engine.now in
     let d = c.in_ok-display.display in
     let e = rest_pattern v (matched d.matcher) c.args.template.now (ap is_pattern c.in-Regex.is) in

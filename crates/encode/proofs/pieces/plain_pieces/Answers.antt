@@ -9,7 +9,7 @@ pub plain_piece-requires : goal.plain_piece-requires
 plain_piece-requires c = (c.loop-piece.invariant.writes.fits, route_good c.loop-piece.invariant _ _ c.in-Some.ensures.value)
 
 pub returns-in_err-pen : goal.returns-in_err-pen
-returns-in_err-pen c = rw c.from-residual.ensures (route_stops c.loop-piece.invariant _ _ c.in-Some.ensures.value _ c.in_err-pen.ensures)
+returns-in_err-pen c = rw c.from_residual.ensures (route_stops c.loop-piece.invariant _ _ c.in-Some.ensures.value _ c.in_err-pen.ensures)
 
 pub loop-piece-preserved : goal.loop-piece-preserved
 loop-piece-preserved c = route_more c.loop-piece.invariant _ _ c.in-Some.ensures.value _ _ c.in_ok-pen.ensures

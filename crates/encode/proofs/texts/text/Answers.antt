@@ -13,7 +13,7 @@ returns-in_err-pen c =
     let xs = c.args.typed.now in
     let i = c.loop-i.i in
     let f = first-kept 36 xs i (omega arith) in
-    rw c.from-residual.ensures (stops (2 ∷ get_or xs i 0 ∷ []) (letters f.0) (ap letters f.1) c.loop-i.invariant c.in_err-pen.ensures)
+    rw c.from_residual.ensures (stops (2 ∷ get_or xs i 0 ∷ []) (letters f.0) (ap letters f.1) c.loop-i.invariant c.in_err-pen.ensures)
 
 pub loop-i-preserved-then-typed-i-eq36 : goal.loop-i-preserved-then-typed-i-eq36
 loop-i-preserved-then-typed-i-eq36 c =

@@ -9,7 +9,7 @@ use Rattle.encode.proofs.whole.encode_template.Goals as goal
 
 pub returns-in_err-read : goal.returns-in_err-read
 returns-in_err-read c =
-    let p = err_from_is_err_and c.from-residual.result c.from-residual.ensures.1 in
+    let p = err_from_is_err_and c.from_residual.result c.from_residual.ensures.1 in
     let e = not-encoded c.args.template.now _ c.in_err-read.ensures.exact in
     record { answer = rw (p.1, p.2, e) refl; buffer = rw e refl }
 

@@ -17,7 +17,7 @@ piece-requires c =
     }
 
 pub returns-in_err-pen : goal.returns-in_err-pen
-returns-in_err-pen c = rw c.from-residual.ensures (route_stops c.loop-typed.invariant _ _ c.in-Some.ensures.value _ c.in_err-pen.ensures)
+returns-in_err-pen c = rw c.from_residual.ensures (route_stops c.loop-typed.invariant _ _ c.in-Some.ensures.value _ c.in_err-pen.ensures)
 
 pub loop-typed-preserved : goal.loop-typed-preserved
 loop-typed-preserved c = route_more c.loop-typed.invariant _ _ c.in-Some.ensures.value _ _ c.in_ok-pen.ensures

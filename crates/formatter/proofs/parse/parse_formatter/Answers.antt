@@ -10,9 +10,9 @@ use Rattle.formatter.proofs.parse.parse_formatter.Goals as goal
 
 pub returns-in_err-parts : goal.returns-in_err-parts
 returns-in_err-parts c =
-    let p = err_from_is_err_and c.from-residual.result c.from-residual.ensures.1 in
-    let e : seen_formatter c.from-residual.result ≡ formatter_read c.args.text.now = rw (p.1, p.2) (template_fails _ (formatter_at c.args.text.now) _ c.in_err-parts.ensures) in
-    record { exact = e; whole = whole_reading_lem c.args.text.now c.from-residual.result e; reading = read_as _ _ e; walk = outputs_walk }
+    let p = err_from_is_err_and c.from_residual.result c.from_residual.ensures.1 in
+    let e : seen_formatter c.from_residual.result ≡ formatter_read c.args.text.now = rw (p.1, p.2) (template_fails _ (formatter_at c.args.text.now) _ c.in_err-parts.ensures) in
+    record { exact = e; whole = whole_reading_lem c.args.text.now c.from_residual.result e; reading = read_as _ _ e; walk = outputs_walk }
 
 pub parse_pieces-requires : goal.parse_pieces-requires
 parse_pieces-requires c =
@@ -21,10 +21,10 @@ parse_pieces-requires c =
 
 pub returns-in_err-max_capture : goal.returns-in_err-max_capture
 returns-in_err-max_capture c =
-    let p = err_from_is_err_and c.from-residual-in_err-max_capture.result c.from-residual-in_err-max_capture.ensures.1 in
+    let p = err_from_is_err_and c.from_residual-in_err-max_capture.result c.from_residual-in_err-max_capture.ensures.1 in
     let k = known c.args.text.now c.in_ok-parts.parts c.in_ok-parts.ensures in
-    let e : seen_formatter c.from-residual-in_err-max_capture.result ≡ formatter_read c.args.text.now = rw (p.1, p.2) (pieces_fail c.args.text.now c.in_ok-parts.parts k _ c.in_err-max_capture.ensures) in
-    record { exact = e; whole = whole_reading_lem c.args.text.now c.from-residual-in_err-max_capture.result e; reading = read_as _ _ e; walk = outputs_walk }
+    let e : seen_formatter c.from_residual-in_err-max_capture.result ≡ formatter_read c.args.text.now = rw (p.1, p.2) (pieces_fail c.args.text.now c.in_ok-parts.parts k _ c.in_err-max_capture.ensures) in
+    record { exact = e; whole = whole_reading_lem c.args.text.now c.from_residual-in_err-max_capture.result e; reading = read_as _ _ e; walk = outputs_walk }
 
 pub returns : goal.returns
 returns c =

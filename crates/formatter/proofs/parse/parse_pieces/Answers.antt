@@ -15,7 +15,7 @@ parse_piece-requires c =
 
 pub returns-in_err-greatest : goal.returns-in_err-greatest
 returns-in_err-greatest c =
-    let p = err_from_is_err_and c.from-residual.result c.from-residual.ensures.1 in
+    let p = err_from_is_err_and c.from_residual.result c.from_residual.ensures.1 in
     p.1 ∙ ap (λ e. Err e) p.2 ∙ fails c.args.text.now c.loop-piece.at c.loop-piece.number c.loop-piece.greatest _ c.loop-piece.invariant _ _ c.in-Some.ensures.value _ c.in_err-greatest.ensures
 
 pub overflow_add-number : goal.overflow_add-number

@@ -10,7 +10,7 @@ slice_bounds-parse_template-end c =
 
 pub returns-in_err-read : goal.returns-in_err-read
 returns-in_err-read c =
-    let p = err_from_is_err_and c.from-residual.result c.from-residual.ensures.1 in
+    let p = err_from_is_err_and c.from_residual.result c.from_residual.ensures.1 in
     let is = text_is c.args.typed.now c.args.scratch.now c.halve.new.out c.halve.result c.unwrap_or-size.result c.requires.0 c.halve.ensures.size c.unwrap_or-size.ensures c.halve.ensures.bytes in
     rw (p.1, p.2) (separator_fails c.args.most c.args.typed.now _ is c.requires.1 _ c.in_err-read.ensures)
 

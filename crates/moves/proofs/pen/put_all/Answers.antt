@@ -6,7 +6,7 @@ use Rattle.moves.proofs.Runs.{broke, byte_more}
 use Rattle.moves.proofs.pen.put_all.Goals as goal
 
 pub returns-in_err-put : goal.returns-in_err-put
-returns-in_err-put c = broke c.from-residual.ensures.1 (byte_more c.args.text.now c.loop-b.b-index _ c.loop-b-test.true refl c.in_err-put.ensures ∙ c.loop-b.invariant)
+returns-in_err-put c = broke c.from_residual.ensures.1 (byte_more c.args.text.now c.loop-b.b-index _ c.loop-b-test.true refl c.in_err-put.ensures ∙ c.loop-b.invariant)
 
 pub loop-b-preserved : goal.loop-b-preserved
 loop-b-preserved c = byte_more c.args.text.now c.loop-b.b-index _ c.loop-b-test.true refl c.in_ok-put.ensures ∙ c.loop-b.invariant

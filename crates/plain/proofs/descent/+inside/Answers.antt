@@ -12,9 +12,9 @@ returns-then-left-eq0 t c = record {
 
 pub returns-in_err-end : goal.returns-in_err-end
 returns-in_err-end t c = record {
-  within = rw c.from-residual.ensures (omega arith);
-  stops = rw c.from-residual.ensures (omega arith);
-  reads = λ ks h. rw c.from-residual.ensures (c.loop-i.invariant.4 ks h ∙ opening c.args.text.now c.loop-i.i ks c.loop-i.groups c.loop-i.len c.loop-i.out (omega arith) (omega arith) (omega arith) (omega arith) ∙ c.in_err-end.ensures.reads (c.loop-i.groups ∷ ks) (omega arith));
+  within = rw c.from_residual.ensures (omega arith);
+  stops = rw c.from_residual.ensures (omega arith);
+  reads = λ ks h. rw c.from_residual.ensures (c.loop-i.invariant.4 ks h ∙ opening c.args.text.now c.loop-i.i ks c.loop-i.groups c.loop-i.len c.loop-i.out (omega arith) (omega arith) (omega arith) (omega arith) ∙ c.in_err-end.ensures.reads (c.loop-i.groups ∷ ks) (omega arith));
 }
 
 pub returns-then-end-text : goal.returns-then-end-text

@@ -19,7 +19,7 @@ enclosed-returns-in_err-pieces g t c =
     let j = c.args.job.now in
     let s = at c.args.buf.now c.args.pen.now in
     let es = outside_at ch m f j j.term 0 in
-    broke c.from-residual-in_err-pieces.ensures.1
+    broke c.from_residual-in_err-pieces.ensures.1
     (thence es (byte 41 ∷ []) (at c.put.new.buf c.put.new.pen) c.in_err-pieces.ensures
     ∙ thence (byte 40 ∷ []) (es ++ byte 41 ∷ []) s c.in_ok-put.ensures
     ∙ ap (λ b. run (enclosed b es) s) (sym c.if-bracketed.true ∙ c.bracketed.ensures))
@@ -48,7 +48,7 @@ one-returns-in_err-separator g t c =
     let place = c.args.place in
     let gap = inside_at ch m f j j.term w.between in
     let rest = below ch m f j (get_or (m.children w.parent) place 0) (powers_of w (eqb place w.first) (eqb (place + 1) w.end)) in
-    broke c.from-residual.ensures.1 (thence gap rest s c.in_err-separator.ensures ∙ ap (λ b. run (cond b [] gap ++ rest) s) (sym (ne_eqb place w.first c.if-place-row.true)))
+    broke c.from_residual.ensures.1 (thence gap rest s c.in_err-separator.ensures ∙ ap (λ b. run (cond b [] gap ++ rest) s) (sym (ne_eqb place w.first c.if-place-row.true)))
 
 pub one-returns-in-Some : goal.one-returns-in-Some
 one-returns-in-Some g t c =
@@ -96,7 +96,7 @@ pieces-returns-in_err-part g t c =
     let k = c.in-Some.command in
     let up = ahead j.code.now c.in-Some.next in
     let e : is_end k ≡ false = sym c.is_end.ensures ∙ c.if-is_end.false in
-    broke c.from-residual.ensures.1
+    broke c.from_residual.ensures.1
     (walk_more m (below ch m f j) j.term j.name.now (spans_of ch m f j) (part_of m (below ch m f j) j.term j.name.now (spans_of ch m f j))
     c.walking.here (onward m j.term c.walking.here k) k up (over k up) (ahead j.code.now c.walking.place) z
     c.in-Some.ensures.first e c.in_err-part.ensures refl refl
@@ -139,7 +139,7 @@ range-returns-in_err-separator g t c =
     let a = inside_at ch m f j j.term w.before in
     let b = inside_at ch m f j j.term w.behind in
     let r = row_at ch m f j w true (children_of m w) in
-    broke c.from-residual.ensures.1
+    broke c.from_residual.ensures.1
     (thence a (r ++ b) s c.in_err-separator.ensures
     ∙ ap (λ es. run es s) (range_some (below ch m f j) (powers_of w) (inside_at ch m f j j.term w.between) (m.children w.parent) w.end c.requires.end a b w.first (omega arith)))
 
@@ -154,7 +154,7 @@ range-returns-in_err-row g t c =
     let a = inside_at ch m f j j.term w.before in
     let b = inside_at ch m f j j.term w.behind in
     let r = row_at ch m f j w true (children_of m w) in
-    broke c.from-residual-in_err-row.ensures.1
+    broke c.from_residual-in_err-row.ensures.1
     (thence r b (at c.separator.new.buf c.separator.new.pen) c.in_err-row.ensures
     ∙ thence a (r ++ b) s c.in_ok-separator.ensures
     ∙ ap (λ es. run es s) (range_some (below ch m f j) (powers_of w) (inside_at ch m f j j.term w.between) (m.children w.parent) w.end c.requires.end a b w.first (omega arith)))
@@ -184,7 +184,7 @@ row-returns-in_err-one g t c =
     let s = at c.args.buf.now c.args.pen.now in
     let w = c.args.row.now in
     let place = c.loop-place.place in
-    broke c.from-residual.ensures.1
+    broke c.from_residual.ensures.1
     (row_more (below ch m f j) (powers_of w) (inside_at ch m f j j.term w.between) (m.children w.parent) w.end c.requires.end place (eqb place w.first) (at c.loop-place.buf c.loop-place.pen) c.loop-place-test.true c.in_err-one.ensures
     ∙ c.loop-place.invariant)
 
@@ -223,7 +223,7 @@ separator-returns-in_err-plain g t c =
     let k = c.in-Some.command in
     let up = ahead j.code.now c.in-Some.next in
     let e : is_end k ≡ false = sym c.is_end.ensures ∙ c.if-is_end.false in
-    broke c.from-residual.ensures.1
+    broke c.from_residual.ensures.1
     (walk_more m (below ch m f j) j.term j.name.now (spans_of ch m f j) (λ v k js. plain m (below ch m f j) j.term j.name.now (spans_of ch m f j) v k)
     c.walking.here (onward m j.term c.walking.here k) k up (over k up) (ahead j.code.now c.walking.place) z
     c.in-Some.ensures.first e c.in_err-plain.ensures refl refl
@@ -249,7 +249,7 @@ pub show-returns-in_err-enter : goal.show-returns-in_err-enter
 show-returns-in_err-enter g t c =
     let ch = (g.C.Chooser.choices c.args.chooser.now).chosen in
     let m = g.S.TermSource.view c.args.source.now in
-    broke c.from-residual.ensures.1 (entered ch m c.args.depth c.args.term c.args.before c.args.after (at c.args.buf.now c.args.pen.now) (c.in_err-enter.ensures.counted c.args.term c.args.buf.now))
+    broke c.from_residual.ensures.1 (entered ch m c.args.depth c.args.term c.args.before c.args.after (at c.args.buf.now c.args.pen.now) (c.in_err-enter.ensures.counted c.args.term c.args.buf.now))
 
 pub show-returns : goal.show-returns
 show-returns g t c =

@@ -16,13 +16,13 @@ loop-words-init c = (c.requires, omega arith, rest_none c.args.from (drop c.args
 
 pub returns-in_err-words : goal.returns-in_err-words
 returns-in_err-words c =
-    let p = err_from_is_err_and c.from-residual.result c.from-residual.ensures.1 in
+    let p = err_from_is_err_and c.from_residual.result c.from_residual.ensures.1 in
     let r = rest_refused c.loop-words.outputs c.loop-words.at c.loop-words.most (drop c.loop-words.at c.args.text.now) _ c.in_err-words.ensures.value in
     p.1 ∙ ap (λ (x : Fault). Err x) p.2 ∙ r ∙ c.loop-words.invariant.2 ∙ whole_is c.args.from (drop c.args.from c.args.text.now)
 
 pub returns-in_err-outputs : goal.returns-in_err-outputs
 returns-in_err-outputs c =
-    let p = err_from_is_err_and c.from-residual-in_err-outputs.result c.from-residual-in_err-outputs.ensures.1 in
+    let p = err_from_is_err_and c.from_residual-in_err-outputs.result c.from_residual-in_err-outputs.ensures.1 in
     let r = words_refused c.args.text.now c.loop-words.at c.in_ok-words.words (seen_output c.in_ok-words.control) c.in_ok-words.ensures.value c.loop-words.outputs c.loop-words.most _ c.if-words-gt0.true c.in_err-outputs.ensures in
     p.1 ∙ ap (λ (x : Fault). Err x) p.2 ∙ r ∙ c.loop-words.invariant.2 ∙ whole_is c.args.from (drop c.args.from c.args.text.now)
 
@@ -43,7 +43,7 @@ pub returns-in_err-outputs-2 : goal.returns-in_err-outputs-2
 returns-in_err-outputs-2 c =
     let w : Counted c.loop-words.outputs c.loop-words.at c.in_ok-words.words c.if-words-gt0.outputs =
     elim c.if-words-gt0.branch [ then-words-gt0+in-ok-outputs w ↦ inl (w.if-words-gt0.true, ap (λ (x : ℕ). Ok x) w.outputs-is ∙ w.in_ok-outputs.ensures) | else-words-gt0 w ↦ inr (w.if-words-gt0.false, w.outputs-is) ] in
-    let p = err_from_is_err_and c.from-residual-in_err-outputs-2.result c.from-residual-in_err-outputs-2.ensures.1 in
+    let p = err_from_is_err_and c.from_residual-in_err-outputs-2.result c.from_residual-in_err-outputs-2.ensures.1 in
     let r = control_refused c.args.text.now c.loop-words.at c.in_ok-words.words (seen_output c.in_ok-words.control) c.in_ok-words.ensures.value c.loop-words.outputs c.loop-words.most c.if-words-gt0.outputs c.loop-words.invariant.1 w (shape c.in-Some.piece) c.in-Some.used _ (ap seen_output c.in-Some.is) c.in_err-outputs-2.ensures in
     p.1 ∙ ap (λ (x : Fault). Err x) p.2 ∙ r ∙ c.loop-words.invariant.2 ∙ whole_is c.args.from (drop c.args.from c.args.text.now)
 

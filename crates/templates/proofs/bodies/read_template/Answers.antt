@@ -8,7 +8,7 @@ use Rattle.templates.proofs.bodies.read_template.Goals as goal
 
 pub returns-in_err-outputs : goal.returns-in_err-outputs
 returns-in_err-outputs c =
-    let p = err_from_is_err_and c.from-residual-in_err-outputs.result c.from-residual-in_err-outputs.ensures.1 in
+    let p = err_from_is_err_and c.from_residual-in_err-outputs.result c.from_residual-in_err-outputs.ensures.1 in
     let r = template_read_lem c.args.text.now c.in_ok-left.left c.in_ok-left.start c.in_ok-right.right c.in_ok-right.size c.in_ok-right.ensures.within (Err _) c.in_ok-left.ensures.value c.in_ok-right.ensures.value c.in_err-outputs.ensures in
     ap seen_formatter p.1 ∙ ap (λ (x : Fault). Err x) p.2 ∙ r
 

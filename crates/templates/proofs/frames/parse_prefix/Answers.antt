@@ -13,7 +13,7 @@ returns-in_default-first_byte c =
 pub returns-in_err-left : goal.returns-in_err-left
 returns-in_err-left c =
     let f : get_or c.args.text.now 0 0 ≡ 36 = omega arith in
-    let p = err_from_is_err_and c.from-residual.result c.from-residual.ensures.1 in
+    let p = err_from_is_err_and c.from_residual.result c.from_residual.ensures.1 in
     rw (p.1, p.2) (record {
       within = tt;
       value = prefix_some c.args.text.now c.in-Some.at (Err _) f c.in-Some.ensures.value c.in_err-left.ensures;

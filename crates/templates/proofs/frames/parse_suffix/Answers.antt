@@ -17,7 +17,7 @@ returns-in_default c =
 
 pub returns-in_err-right : goal.returns-in_err-right
 returns-in_err-right c =
-    let p = err_from_is_err_and c.from-residual.result c.from-residual.ensures.1 in
+    let p = err_from_is_err_and c.from_residual.result c.from_residual.ensures.1 in
     rw (p.1, p.2) (record {
       within = tt;
       value = suffix_some c.args.text.now c.args.from c.in-Some.at (Err _) (omega arith) (omega arith) c.in-Some.ensures.within c.in-Some.ensures.value c.in_err-right.ensures;

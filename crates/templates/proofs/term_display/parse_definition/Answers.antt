@@ -16,7 +16,7 @@ returns-then-template-gt-TEMPLATE-LIMIT c =
 
 pub returns-in_err-read : goal.returns-in_err-read
 returns-in_err-read c =
-    let p = err_from_is_err_and c.from-residual.result c.from-residual.ensures.1 in
+    let p = err_from_is_err_and c.from_residual.result c.from_residual.ensures.1 in
     ap seen_definition p.1 ∙ ap (λ (x : ParseError EitherError). Err x) p.2 ∙ matcher_refused c.args.matcher.now c.args.template.now c.if-matcher-gt-MATCHER-LIMIT.false c.if-template-gt-TEMPLATE-LIMIT.false _ c.in_err-read.ensures
 
 pub returns : goal.returns

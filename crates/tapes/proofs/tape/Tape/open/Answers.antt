@@ -12,19 +12,13 @@ invariant_of-result c =
     let b = c.beginning-count.ensures in
     let f = c.in_ok-starts.field-0 in
     let laid = c.in_ok-starts.ensures in
-    let k = count_at c.args.nodes.now in (
-      omega (arith, laid.count, b.within),
-      (
-        (λ t h. b.before t (omega (arith, laid.count))),
-        (
-          (λ t h. omega (arith, laid_within k n (λ t h. (b.before t h).1) (vec_items f.starts) (vec_items f.kids) laid.starts laid.kids t (omega (arith, laid.count)), f.kids.ok.0)),
-          (
-            (λ t i h. laid_at k n (λ t h. (b.before t h).1) (vec_items f.starts) (vec_items f.kids) laid.starts laid.kids t i (omega (arith, laid.count, h.0)) h.1),
-            tt,
-          ),
-        ),
-      ),
-    )
+    let k = count_at c.args.nodes.now in
+    record {
+      within = omega (arith, laid.count, b.within);
+      lawful = λ t h. b.before t (omega (arith, laid.count));
+      laid = λ t h. omega (arith, laid_within k n (λ t h. (b.before t h).1) (vec_items f.starts) (vec_items f.kids) laid.starts laid.kids t (omega (arith, laid.count)), f.kids.ok.0);
+      kept = λ t i h. laid_at k n (λ t h. (b.before t h).1) (vec_items f.starts) (vec_items f.kids) laid.starts laid.kids t i (omega (arith, laid.count, h.0)) h.1;
+    }
 
 pub returns : goal.returns
 returns c =
