@@ -9,7 +9,7 @@ use Rattle.moves.specs.Walk.{onward, over, plain, part_of}
 use Rattle.print.proofs.Steps.{walk_more, row_more, row_all, range_some, range_none, one_more, child_shown, range_part, visited, entered}
 use Rattle.print.specs.Jobs.{powers_of, children_of, below, spans_of, inside_at, part_at, outside_at, one_at, row_at, range_at}
 use Rattle.print.proofs.show.+enclosed_one_part_pieces_plain_range_row_separator_show.Goals as goal
-use Rattle.print.proofs.show.+enclosed_one_part_pieces_plain_range_row_separator_show.Goals.{one-then-place-row+in-ok-separator, one-else-place-row}
+use Rattle.print.proofs.show.+enclosed_one_part_pieces_plain_range_row_separator_show.Goals.{one-then-place-row+in_ok-separator, one-else-place-row}
 
 pub enclosed-returns-in_err-pieces : goal.enclosed-returns-in_err-pieces
 enclosed-returns-in_err-pieces g t c =
@@ -64,7 +64,7 @@ one-returns-in-Some g t c =
     let rest = below ch m f j (get_or (m.children w.parent) place 0) (powers_of w first (eqb (place + 1) w.end)) in
     let z = at c.if-place-row.buf c.if-place-row.pen in
     let came : done z ≡ run (cond first [] gap) s = elim c.if-place-row.branch [
-      | one-then-place-row+in-ok-separator v ↦ (λ i. done (at (v.buf-is i) (v.pen-is i))) ∙ v.in_ok-separator.ensures ∙ ap (λ b. run (cond b [] gap) s) (sym (ne_eqb place w.first v.if-place-row.true))
+      | one-then-place-row+in_ok-separator v ↦ (λ i. done (at (v.buf-is i) (v.pen-is i))) ∙ v.in_ok-separator.ensures ∙ ap (λ b. run (cond b [] gap) s) (sym (ne_eqb place w.first v.if-place-row.true))
       | one-else-place-row v ↦ (λ i. done (at (v.buf-is i) (v.pen-is i))) ∙ ap (λ b. run (cond b [] gap) s) (sym (eq-eqb place w.first v.if-place-row.false))
     ] in
     let next : j.depth + 1 ≡ suc j.depth = omega arith in

@@ -8,19 +8,19 @@ use Rattle.matchers.specs.declared.defns_const.MatcherKindConst.TheVariants.{Reg
 use Rattle.templates.specs.Views.{seen, seen_definition}
 use Rattle.templates.proofs.Joined.{template_long, matcher_refused, both_accepted}
 use Rattle.templates.proofs.term_display.parse_definition.Goals as goal
-use Rattle.templates.proofs.term_display.parse_definition.Goals.{in-Exact·+in-None·, in-Regex·}
+use Rattle.templates.proofs.term_display.parse_definition.Goals.{in-Exact+in-None-1, in-Regex-1}
 
-pub returns-then-template-gt-TEMPLATE-LIMIT : goal.returns-then-template-gt-TEMPLATE-LIMIT
-returns-then-template-gt-TEMPLATE-LIMIT c =
-    template_long c.args.matcher.now c.args.template.now c.if-matcher-gt-MATCHER-LIMIT.false c.if-template-gt-TEMPLATE-LIMIT.true
+pub returns-then-template-gt-TEMPLATE_LIMIT : goal.returns-then-template-gt-TEMPLATE_LIMIT
+returns-then-template-gt-TEMPLATE_LIMIT c =
+    template_long c.args.matcher.now c.args.template.now c.if-matcher-gt-MATCHER_LIMIT.false c.if-template-gt-TEMPLATE_LIMIT.true
 
 pub returns-in_err-read : goal.returns-in_err-read
 returns-in_err-read c =
     let p = err_from_is_err_and c.from_residual.result c.from_residual.ensures.1 in
-    ap seen_definition p.1 ∙ ap (λ (x : ParseError EitherError). Err x) p.2 ∙ matcher_refused c.args.matcher.now c.args.template.now c.if-matcher-gt-MATCHER-LIMIT.false c.if-template-gt-TEMPLATE-LIMIT.false _ c.in_err-read.ensures
+    ap seen_definition p.1 ∙ ap (λ (x : ParseError EitherError). Err x) p.2 ∙ matcher_refused c.args.matcher.now c.args.template.now c.if-matcher-gt-MATCHER_LIMIT.false c.if-template-gt-TEMPLATE_LIMIT.false _ c.in_err-read.ensures
 
 pub returns : goal.returns
 returns c =
     let w : ((matched c.in_ok-read.read).pattern ≡ true) ⊎ (c.in_ok-formatter.formatter.max_capture ≡ None) =
-    elim c.match-read.branch [ in-Exact·+in-None· w ↦ inr (cc) | in-Regex· w ↦ inl (let k : c.in_ok-read.read.kind ≡ Regex = cc in rw k) ] in
-    both_accepted c.args.matcher.now c.args.template.now c.if-matcher-gt-MATCHER-LIMIT.false c.if-template-gt-TEMPLATE-LIMIT.false (matched c.in_ok-read.read) (seen c.in_ok-formatter.formatter) c.in_ok-read.ensures c.in_ok-formatter.ensures w
+    elim c.match-read.branch [ in-Exact+in-None-1 w ↦ inr (cc) | in-Regex-1 w ↦ inl (let k : c.in_ok-read.read.kind ≡ Regex = cc in rw k) ] in
+    both_accepted c.args.matcher.now c.args.template.now c.if-matcher-gt-MATCHER_LIMIT.false c.if-template-gt-TEMPLATE_LIMIT.false (matched c.in_ok-read.read) (seen c.in_ok-formatter.formatter) c.in_ok-read.ensures c.in_ok-formatter.ensures w
