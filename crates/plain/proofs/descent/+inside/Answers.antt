@@ -1,4 +1,4 @@
-use Rattle.std.proofs.Common.{◌+◌, ◌-◌, ◌<◌, ◌∷◌, length, ◌∙◌, arith, length-set}
+use Rattle.std.proofs.Common.{◌<◌, ◌∷◌, length, ◌∙◌, arith, length-set}
 use Rattle.matching.specs.declared.items.Item.TheVariants.{Open}
 use Rattle.matching.proofs.Descends.{opening, too_deep, no_set_here, set_here, closing_up, never_closed}
 use Rattle.plain.proofs.descent.+inside.Goals as goal
