@@ -17,7 +17,7 @@ returns-in_err-parts c =
 pub parse_pieces-requires : goal.parse_pieces-requires
 parse_pieces-requires c =
     let k = known c.args.text.now c.in_ok-parts.parts c.in_ok-parts.ensures in
-    record { 0 = (omega arith, k.short); read = ap is_ok k.shapes }
+    record { template_limit_in_bounds = (omega arith, k.short); read = ap is_ok k.shapes }
 
 pub returns-in_err-max_capture : goal.returns-in_err-max_capture
 returns-in_err-max_capture c =

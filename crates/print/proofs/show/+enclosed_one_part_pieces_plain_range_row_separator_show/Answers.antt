@@ -15,7 +15,7 @@ pub enclosed-returns-in_err-pieces : goal.enclosed-returns-in_err-pieces
 enclosed-returns-in_err-pieces g t c =
     let ch = (g.C.Chooser.choices c.args.chooser.now).chosen in
     let m = g.S.TermSource.view c.args.source.now in
-    let f = g.Match.Spans.listed in
+    let f = g.C.Match.Spans.listed in
     let j = c.args.job.now in
     let s = at c.args.buf.now c.args.pen.now in
     let es = outside_at ch m f j j.term 0 in
@@ -28,7 +28,7 @@ pub enclosed-returns-in_ok-pieces : goal.enclosed-returns-in_ok-pieces
 enclosed-returns-in_ok-pieces g t c =
     let ch = (g.C.Chooser.choices c.args.chooser.now).chosen in
     let m = g.S.TermSource.view c.args.source.now in
-    let f = g.Match.Spans.listed in
+    let f = g.C.Match.Spans.listed in
     let j = c.args.job.now in
     let s = at c.args.buf.now c.args.pen.now in
     let es = outside_at ch m f j j.term 0 in
@@ -41,7 +41,7 @@ pub one-returns-in_err-separator : goal.one-returns-in_err-separator
 one-returns-in_err-separator g t c =
     let ch = (g.C.Chooser.choices c.args.chooser.now).chosen in
     let m = g.S.TermSource.view c.args.source.now in
-    let f = g.Match.Spans.listed in
+    let f = g.C.Match.Spans.listed in
     let j = c.args.job.now in
     let s = at c.args.buf.now c.args.pen.now in
     let w = c.args.row.now in
@@ -54,7 +54,7 @@ pub one-returns-in-Some : goal.one-returns-in-Some
 one-returns-in-Some g t c =
     let ch = (g.C.Chooser.choices c.args.chooser.now).chosen in
     let m = g.S.TermSource.view c.args.source.now in
-    let f = g.Match.Spans.listed in
+    let f = g.C.Match.Spans.listed in
     let j = c.args.job.now in
     let s = at c.args.buf.now c.args.pen.now in
     let w = c.args.row.now in
@@ -76,7 +76,7 @@ pub part-returns-in-Range : goal.part-returns-in-Range
 part-returns-in-Range g t c =
     let ch = (g.C.Chooser.choices c.args.chooser.now).chosen in
     let m = g.S.TermSource.view c.args.source.now in
-    let f = g.Match.Spans.listed in
+    let f = g.C.Match.Spans.listed in
     let j = c.args.job.now in
     let s = at c.args.buf.now c.args.pen.now in
     c.range.ensures
@@ -89,7 +89,7 @@ pub pieces-returns-in_err-part : goal.pieces-returns-in_err-part
 pieces-returns-in_err-part g t c =
     let ch = (g.C.Chooser.choices c.args.chooser.now).chosen in
     let m = g.S.TermSource.view c.args.source.now in
-    let f = g.Match.Spans.listed in
+    let f = g.C.Match.Spans.listed in
     let j = c.args.job.now in
     let s = at c.args.buf.now c.args.pen.now in
     let z = at c.walking.buf c.walking.pen in
@@ -106,7 +106,7 @@ pub pieces-walking-preserved : goal.pieces-walking-preserved
 pieces-walking-preserved g t c =
     let ch = (g.C.Chooser.choices c.args.chooser.now).chosen in
     let m = g.S.TermSource.view c.args.source.now in
-    let f = g.Match.Spans.listed in
+    let f = g.C.Match.Spans.listed in
     let j = c.args.job.now in
     let s = at c.args.buf.now c.args.pen.now in
     let z = at c.walking.buf c.walking.pen in
@@ -122,7 +122,7 @@ pub range-returns-then-span : goal.range-returns-then-span
 range-returns-then-span g t c =
     let ch = (g.C.Chooser.choices c.args.chooser.now).chosen in
     let m = g.S.TermSource.view c.args.source.now in
-    let f = g.Match.Spans.listed in
+    let f = g.C.Match.Spans.listed in
     let j = c.args.job.now in
     let s = at c.args.buf.now c.args.pen.now in
     let w = c.args.span.now in
@@ -132,7 +132,7 @@ pub range-returns-in_err-separator : goal.range-returns-in_err-separator
 range-returns-in_err-separator g t c =
     let ch = (g.C.Chooser.choices c.args.chooser.now).chosen in
     let m = g.S.TermSource.view c.args.source.now in
-    let f = g.Match.Spans.listed in
+    let f = g.C.Match.Spans.listed in
     let j = c.args.job.now in
     let s = at c.args.buf.now c.args.pen.now in
     let w = c.args.span.now in
@@ -147,7 +147,7 @@ pub range-returns-in_err-row : goal.range-returns-in_err-row
 range-returns-in_err-row g t c =
     let ch = (g.C.Chooser.choices c.args.chooser.now).chosen in
     let m = g.S.TermSource.view c.args.source.now in
-    let f = g.Match.Spans.listed in
+    let f = g.C.Match.Spans.listed in
     let j = c.args.job.now in
     let s = at c.args.buf.now c.args.pen.now in
     let w = c.args.span.now in
@@ -163,7 +163,7 @@ pub range-returns : goal.range-returns
 range-returns g t c =
     let ch = (g.C.Chooser.choices c.args.chooser.now).chosen in
     let m = g.S.TermSource.view c.args.source.now in
-    let f = g.Match.Spans.listed in
+    let f = g.C.Match.Spans.listed in
     let j = c.args.job.now in
     let s = at c.args.buf.now c.args.pen.now in
     let w = c.args.span.now in
@@ -179,7 +179,7 @@ pub row-returns-in_err-one : goal.row-returns-in_err-one
 row-returns-in_err-one g t c =
     let ch = (g.C.Chooser.choices c.args.chooser.now).chosen in
     let m = g.S.TermSource.view c.args.source.now in
-    let f = g.Match.Spans.listed in
+    let f = g.C.Match.Spans.listed in
     let j = c.args.job.now in
     let s = at c.args.buf.now c.args.pen.now in
     let w = c.args.row.now in
@@ -192,7 +192,7 @@ pub row-loop-place-preserved : goal.row-loop-place-preserved
 row-loop-place-preserved g t c =
     let ch = (g.C.Chooser.choices c.args.chooser.now).chosen in
     let m = g.S.TermSource.view c.args.source.now in
-    let f = g.Match.Spans.listed in
+    let f = g.C.Match.Spans.listed in
     let j = c.args.job.now in
     let s = at c.args.buf.now c.args.pen.now in
     let w = c.args.row.now in
@@ -205,7 +205,7 @@ pub row-returns : goal.row-returns
 row-returns g t c =
     let ch = (g.C.Chooser.choices c.args.chooser.now).chosen in
     let m = g.S.TermSource.view c.args.source.now in
-    let f = g.Match.Spans.listed in
+    let f = g.C.Match.Spans.listed in
     let j = c.args.job.now in
     let s = at c.args.buf.now c.args.pen.now in
     let w = c.args.row.now in
@@ -216,7 +216,7 @@ pub separator-returns-in_err-plain : goal.separator-returns-in_err-plain
 separator-returns-in_err-plain g t c =
     let ch = (g.C.Chooser.choices c.args.chooser.now).chosen in
     let m = g.S.TermSource.view c.args.source.now in
-    let f = g.Match.Spans.listed in
+    let f = g.C.Match.Spans.listed in
     let j = c.args.job.now in
     let s = at c.args.buf.now c.args.pen.now in
     let z = at c.walking.buf c.walking.pen in
@@ -233,7 +233,7 @@ pub separator-walking-preserved : goal.separator-walking-preserved
 separator-walking-preserved g t c =
     let ch = (g.C.Chooser.choices c.args.chooser.now).chosen in
     let m = g.S.TermSource.view c.args.source.now in
-    let f = g.Match.Spans.listed in
+    let f = g.C.Match.Spans.listed in
     let j = c.args.job.now in
     let s = at c.args.buf.now c.args.pen.now in
     let z = at c.walking.buf c.walking.pen in
@@ -262,6 +262,6 @@ show-returns g t c =
     let nm : take (len - 0) out ≡ m.name c.args.term = ap (λ k. take k out) cut ∙ c.copy_name-len.ensures.copied in
     let count = c.child_number-count.result in
     c.enclosed.ensures
-    ∙ visited ch m c.args.depth c.args.term c.args.before c.args.after (take (len - 0) out) count (seen g.Match.Spans.listed (length (take (len - 0) out)) c.choose-found.result) (at c.args.buf.now c.enter.new.pen)
+    ∙ visited ch m c.args.depth c.args.term c.args.before c.args.after (take (len - 0) out) count (seen g.C.Match.Spans.listed (length (take (len - 0) out)) c.choose-found.result) (at c.args.buf.now c.enter.new.pen)
     nm c.child_number-count.ensures c.choose-found.ensures (choices.formed (take (len - 0) out) count)
     ∙ entered ch m c.args.depth c.args.term c.args.before c.args.after (at c.args.buf.now c.args.pen.now) (c.in_ok-enter.ensures.counted c.args.term c.args.buf.now)

@@ -34,7 +34,7 @@ decreases-enclosed g l = 9 * (128 - l.job.now.depth) + 8
 -- what is left does what the whole does
 abbrev pub invariant-separator-walking : goal.invariant-separator-walking
 invariant-separator-walking g l =
-    let inside = inside_at (g.C.Chooser.choices l.chooser).chosen (g.S.TermSource.view l.source) g.Match.Spans.listed l.job in
+    let inside = inside_at (g.C.Chooser.choices l.chooser).chosen (g.S.TermSource.view l.source) g.C.Match.Spans.listed l.job in
     run (inside l.here l.place) (at l.buf l.pen) ≡ run (inside l.job.term l.start) (at l.initial.buf l.initial.pen)
 
 abbrev pub decreases-separator-walking : goal.decreases-separator-walking
@@ -42,7 +42,7 @@ decreases-separator-walking g l = length l.job.code.now - l.place
 
 abbrev pub invariant-pieces-walking : goal.invariant-pieces-walking
 invariant-pieces-walking g l =
-    let outside = outside_at (g.C.Chooser.choices l.chooser).chosen (g.S.TermSource.view l.source) g.Match.Spans.listed l.job in
+    let outside = outside_at (g.C.Chooser.choices l.chooser).chosen (g.S.TermSource.view l.source) g.C.Match.Spans.listed l.job in
     run (outside l.here l.place) (at l.buf l.pen) ≡ run (outside l.job.term 0) (at l.initial.buf l.initial.pen)
 
 abbrev pub decreases-pieces-walking : goal.decreases-pieces-walking
@@ -51,5 +51,5 @@ decreases-pieces-walking g l = length l.job.code.now - l.place
 abbrev pub invariant-row-loop-place : goal.invariant-row-loop-place
 invariant-row-loop-place g l =
     let m = g.S.TermSource.view l.source in
-    let row = row_at (g.C.Chooser.choices l.chooser).chosen m g.Match.Spans.listed l.job l.row in
+    let row = row_at (g.C.Chooser.choices l.chooser).chosen m g.C.Match.Spans.listed l.job l.row in
     run (row (eqb l.place l.row.first) (drop l.place (take l.row.end (m.children l.row.parent)))) (at l.buf l.pen) ≡ run (row true (children_of m l.row)) (at l.initial.buf l.initial.pen)
