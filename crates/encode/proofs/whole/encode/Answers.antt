@@ -14,7 +14,7 @@ use Rattle.encode.proofs.whole.encode.Goals as goal
 pub returns : goal.returns
 returns c =
     let t = c.args.template.now in
-    let bytes : All Byte t = All-from_get_or Byte t 0 (λ i h. (c.type-inv.template i).fits) in
+    let bytes : All Byte t = All-from_get_or Byte t 0 (λ i h. (c.type_inv.template i).fits) in
     let a = c.encode_template.ensures.answer in
     let b = c.encode_template.ensures.buffer in
     record {
