@@ -15,52 +15,52 @@ returns-in_err-display g c =
       cases = rw p.1 (λ k. refl);
     }
 
-pub returns-in_err-check_captures : goal.returns-in_err-check_captures
-returns-in_err-check_captures g c =
-    let p = err_from_is_err_and c.from_residual-in_err-check_captures.result c.from_residual-in_err-check_captures.ensures.1 in
+pub returns-in_err-check_captures-in-Exact : goal.returns-in_err-check_captures-in-Exact
+returns-in_err-check_captures-in-Exact g c =
+    let p = err_from_is_err_and c.from_residual-in_err-check_captures-in-Exact.result c.from_residual-in_err-check_captures-in-Exact.ensures.1 in
     let v = g.E.PatternEngine.view c.args.engine.now in
     let d = c.in_ok-display.display in
     let e = rest_exact v (matched d.matcher) c.args.template.now (ap is_pattern c.in-Exact.is) in
     record {
       fixed = record { rules = refl; sizes = refl };
-      refusal = rw (p.1, p.2) (refused_by v c.args.matcher.now c.args.template.now (matched d.matcher) (seen d.formatter) _ c.in_ok-display.ensures (ap result_err c.in_err-check_captures.ensures ∙ sym (ap result_err e)));
+      refusal = rw (p.1, p.2) (refused_by v c.args.matcher.now c.args.template.now (matched d.matcher) (seen d.formatter) _ c.in_ok-display.ensures (ap result_err c.in_err-check_captures-in-Exact.ensures ∙ sym (ap result_err e)));
       cases = rw p.1 (λ k. refl);
     }
 
-pub returns-in_err-ticket : goal.returns-in_err-ticket
-returns-in_err-ticket g c =
-    let p = err_from_is_err_and c.from_residual-in_err-ticket.result c.from_residual-in_err-ticket.ensures.1 in
+pub returns-in_err-ticket-in-Regex : goal.returns-in_err-ticket-in-Regex
+returns-in_err-ticket-in-Regex g c =
+    let p = err_from_is_err_and c.from_residual-in_err-ticket-in-Regex.result c.from_residual-in_err-ticket-in-Regex.ensures.1 in
     let v = g.E.PatternEngine.view c.args.engine.now in
     let d = c.in_ok-display.display in
     let e = rest_pattern v (matched d.matcher) c.args.template.now (ap is_pattern c.in-Regex.is) in
     record {
       fixed = c.check_pattern.ensures.fixed;
-      refusal = rw (p.1, p.2) (refused_by v c.args.matcher.now c.args.template.now (matched d.matcher) (seen d.formatter) _ c.in_ok-display.ensures (c.in_err-ticket.ensures.refusal ∙ sym (ap result_err e)));
-      cases = rw p.1 c.in_err-ticket.ensures.cases;
+      refusal = rw (p.1, p.2) (refused_by v c.args.matcher.now c.args.template.now (matched d.matcher) (seen d.formatter) _ c.in_ok-display.ensures (c.in_err-ticket-in-Regex.ensures.refusal ∙ sym (ap result_err e)));
+      cases = rw p.1 c.in_err-ticket-in-Regex.ensures.cases;
     }
 
-pub returns-in_ok-check_captures : goal.returns-in_ok-check_captures
-returns-in_ok-check_captures g c =
+pub returns-in_ok-check_captures-in-Exact : goal.returns-in_ok-check_captures-in-Exact
+returns-in_ok-check_captures-in-Exact g c =
     let v = g.E.PatternEngine.view c.args.engine.now in
     let d = c.in_ok-display.display in
     let x : (matched d.matcher).pattern ≡ false = ap is_pattern c.in-Exact.is in
     let e = rest_exact v (matched d.matcher) c.args.template.now x in
-    let n = ap result_err c.in_ok-check_captures.ensures ∙ sym (ap result_err e) in
+    let n = ap result_err c.in_ok-check_captures-in-Exact.ensures ∙ sym (ap result_err e) in
     record {
       fixed = record { rules = refl; sizes = refl };
       refusal = refused_by v c.args.matcher.now c.args.template.now (matched d.matcher) (seen d.formatter) _ c.in_ok-display.ensures n;
       cases = accepted_by v c.args.matcher.now c.args.template.now (matched d.matcher) (seen d.formatter) _ _ _ c.in_ok-display.ensures n (x, λ k. refl);
     }
 
-pub returns-in_ok-ticket : goal.returns-in_ok-ticket
-returns-in_ok-ticket g c =
+pub returns-in_ok-ticket-in-Regex : goal.returns-in_ok-ticket-in-Regex
+returns-in_ok-ticket-in-Regex g c =
     let v = g.E.PatternEngine.view c.args.engine.now in
     let d = c.in_ok-display.display in
     let x : (matched d.matcher).pattern ≡ true = ap is_pattern c.in-Regex.is in
     let e = rest_pattern v (matched d.matcher) c.args.template.now x in
-    let n = c.in_ok-ticket.ensures.refusal ∙ sym (ap result_err e) in
+    let n = c.in_ok-ticket-in-Regex.ensures.refusal ∙ sym (ap result_err e) in
     record {
       fixed = c.check_pattern.ensures.fixed;
       refusal = refused_by v c.args.matcher.now c.args.template.now (matched d.matcher) (seen d.formatter) _ c.in_ok-display.ensures n;
-      cases = accepted_by v c.args.matcher.now c.args.template.now (matched d.matcher) (seen d.formatter) _ _ _ c.in_ok-display.ensures n (x, c.in_ok-ticket.ensures.cases);
+      cases = accepted_by v c.args.matcher.now c.args.template.now (matched d.matcher) (seen d.formatter) _ _ _ c.in_ok-display.ensures n (x, c.in_ok-ticket-in-Regex.ensures.cases);
     }
