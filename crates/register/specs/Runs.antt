@@ -1,5 +1,6 @@
 -- Any string of calls on a freshly opened book. Each call has the next `room` bytes of an area for its buffer.
 use Rattle.std.specs.Prelude.{◌≡◌, ℕ, List, [], ◌∷◌, ◌++◌, length, take, drop, Ok, Err, Result}
+use Rattle.std.specs.Borrow.{Bor}
 use Rattle.std.specs.List.{AllByRecursion as All}
 use Rattle.codes.specs.Calls.{filled, after}
 use Rattle.engine.specs.Rules.{Rule}
@@ -27,14 +28,14 @@ room_of (Print t room) = room
 module _ (rule : Rule) (size : ℕ) (source : Source) where
   -- one call on the register g with a buffer: its answer, the buffer then, and the register then
   pub data Turn : Register → Call → List ℕ → Answer → List ℕ → Register → Type 0 where
-    defines : {g : Register} {m t : _} {b : List ℕ} {p : Matched × Template} → admits rule size g m.now t.now ≡ Ok p → Turn g (Define m t) b Done b (added g (record { matcher = p.0; template = t.now }))
-    refuses_definition : {g : Register} {m t : _} {b : List ℕ} {e : BookError} → admits rule size g m.now t.now ≡ Err e → Turn g (Define m t) b (Refused e) b g
-    withdraws : {g : Register} {m : _} {b : List ℕ} {i : ℕ} → names g m.now ≡ Ok i → Turn g (Withdraw m) b Done b (removed g i)
-    refuses_withdrawal : {g : Register} {m : _} {b : List ℕ} {e : BookError} → names g m.now ≡ Err e → Turn g (Withdraw m) b (Refused e) b g
-    replaces : {g : Register} {t : _} {b : List ℕ} {r : Template} → served t.now ≡ Ok r → Turn g (NewFallback t) b Done b (replaced g t.now)
-    refuses_fallback : {g : Register} {t : _} {b : List ℕ} {e : BookError} → served t.now ≡ Err e → Turn g (NewFallback t) b (Refused e) b g
-    looks_up : {g : Register} {name : _} {n room : ℕ} {b : List ℕ} → Turn g (LookUp name n room) b (wrote (filled too_short (looked_up rule g name.now n) b)) (after (looked_up rule g name.now n) b) g
-    reads_back : {g : Register} {m : _} {room : ℕ} {b : List ℕ} → Turn g (ReadBack m room) b (wrote (filled too_short (read_back g m.now) b)) (after (read_back g m.now) b) g
+    defines : {g : Register} {m t : Bor (List ℕ)} {b : List ℕ} {p : Matched × Template} → admits rule size g m.now t.now ≡ Ok p → Turn g (Define m t) b Done b (added g (record { matcher = p.0; template = t.now }))
+    refuses_definition : {g : Register} {m t : Bor (List ℕ)} {b : List ℕ} {e : BookError} → admits rule size g m.now t.now ≡ Err e → Turn g (Define m t) b (Refused e) b g
+    withdraws : {g : Register} {m : Bor (List ℕ)} {b : List ℕ} {i : ℕ} → names g m.now ≡ Ok i → Turn g (Withdraw m) b Done b (removed g i)
+    refuses_withdrawal : {g : Register} {m : Bor (List ℕ)} {b : List ℕ} {e : BookError} → names g m.now ≡ Err e → Turn g (Withdraw m) b (Refused e) b g
+    replaces : {g : Register} {t : Bor (List ℕ)} {b : List ℕ} {r : Template} → served t.now ≡ Ok r → Turn g (NewFallback t) b Done b (replaced g t.now)
+    refuses_fallback : {g : Register} {t : Bor (List ℕ)} {b : List ℕ} {e : BookError} → served t.now ≡ Err e → Turn g (NewFallback t) b (Refused e) b g
+    looks_up : {g : Register} {name : Bor (List ℕ)} {n room : ℕ} {b : List ℕ} → Turn g (LookUp name n room) b (wrote (filled too_short (looked_up rule g name.now n) b)) (after (looked_up rule g name.now n) b) g
+    reads_back : {g : Register} {m : Bor (List ℕ)} {room : ℕ} {b : List ℕ} → Turn g (ReadBack m room) b (wrote (filled too_short (read_back g m.now) b)) (after (read_back g m.now) b) g
     prints : {g : Register} {t room : ℕ} {b : List ℕ} → Turn g (Print t room) b (printed (answer (printing (chosen rule g) source t (length b)))) (left (printing (chosen rule g) source t (length b)) b) g
 
   -- a string of calls: the answers, the area then, and the register then
