@@ -24,7 +24,7 @@ impl Typed {
 }
 
 // A name and numbers, parted by blanks, in a line.
-pub fn typed(
+pub fn typed_term(
     heap: Global,
     line: usize,
     text: &[u8],

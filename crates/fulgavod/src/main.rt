@@ -26,6 +26,6 @@ fn run(rt: &HostRuntime) -> anyhow::Result<()> {
         }
     };
     let text = check_page(heap, bytes.as_slice())?;
-    print!(rt, "{text}")?;
+    print!(rt; "{text}")?;
     Ok(())
 }

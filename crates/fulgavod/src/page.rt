@@ -61,7 +61,7 @@ fn arrow(text: &[u8]) -> Option<usize>
     ensures { MatchOption result (0 ≤ 0) (λ at. at + 4 ≤ length text.now) }
 {
     for i in 0..text.len() {
-        if text.len() - i >= 4 && &text[i..i + 4] == b" => " {
+        if text.len() - i >= 4 && &text[i..i + 4] == b" => ".as_slice() {
             return Some(i);
         }
     }
@@ -204,7 +204,7 @@ fn table_line(
         tally.open = Open::Table;
         tally.start = number;
     }
-    match blocks::typed(heap, number, line, rest)? {
+    match blocks::typed_term(heap, number, line, rest)? {
         Some(term) => {
             tally.terms.push(term)?;
             Ok(())
@@ -221,10 +221,10 @@ fn tape_line(
     number: usize,
     line: &[u8],
 ) -> anyhow::Result<()> {
-    if line == b"end" {
+    if line == b"end".as_slice() {
         return close_block(heap, out, tally);
     }
-    match blocks::typed(heap, number, line, line)? {
+    match blocks::typed_term(heap, number, line, line)? {
         Some(term) if term.count() == 1 => {
             tally.terms.push(term)?;
             Ok(())
@@ -248,7 +248,7 @@ fn one_line(
         return table_line(heap, out, tally, number, line, rest);
     }
     close_block(heap, out, tally)?;
-    if line == b"tape" {
+    if line == b"tape".as_slice() {
         tally.open = Open::Tape;
         tally.start = number;
         return Ok(());
