@@ -1,11 +1,11 @@
 -- What a call on codes has written, and which templates have a code that is answered.
-use Rattle.std.proofs.Common.{◌≡◌, ℕ, ◌≤◌, Bool, true, false, cond, leb, List, [], ◌∷◌, ◌++◌, length, take, drop, is_ok, IfOk, Ok, Err, Decides, Result, sym, refl, ap, ◌∙◌, subst, arith}
+use Rattle.std.proofs.Common.{◌≡◌, ℕ, ◌≤◌, Bool, true, false, cond, leb, List, ◌++◌, length, take, drop, is_ok, IfOk, Ok, Err, Decides, Result, sym, refl, ap, ◌∙◌, subst, arith}
 use Rattle.std.proofs.lemmas.List.{take-append-le, take_all}
 use Rattle.std.proofs.lemmas.Bool.{leb-true, le-leb, false≢true}
 use Rattle.std.specs.List.{AllByRecursion as All}
 use Rattle.grammar.proofs.Chains.{by_on_ok, by_on_err, same_ok, refused}
 use Rattle.grammar.proofs.Readers.{read_as_the_grammar_lem}
-use Rattle.grammar.specs.Deep.{DeepFault, reading_at, deep_at}
+use Rattle.grammar.specs.Deep.{reading_at, deep_at}
 use Rattle.grammar.specs.Limits.{template_limit}
 use Rattle.grammar.specs.Readings.{Template, Byte}
 use Rattle.grammar.specs.Results.{on_ok, on_err, located}

@@ -1,10 +1,10 @@
 -- A separator that stands in a template has no `)` of a text before a `$`.
-use Rattle.std.proofs.Common.{◌≡◌, ℕ, Bool, true, false, not, ◌&&◌, eqb, List, [], ◌∷◌, ◌++◌, sym, refl, ◌∙◌, subst, append_assoc, append-nil}
+use Rattle.std.proofs.Common.{◌≡◌, ℕ, Bool, true, false, not, ◌&&◌, eqb, List, [], ◌∷◌, ◌++◌, sym, refl, ◌∙◌, subst, append-nil}
 use Rattle.std.proofs.lemmas.Bool.{and_from, and_left, and_right, or_parts, or_from, not_from_false}
 use Rattle.grammar.proofs.MarksFound.{closes-left, closes_right, keeps}
 use Rattle.grammar.proofs.Opens.{part_closes}
 use Rattle.grammar.proofs.Plain.{prefix_closes}
-use Rattle.grammar.specs.Grammar.{Separators, Repeats, Control, is_child, is_capture, is_repeat, Doubled, Body, over, control, words, Prefix, Suffix, NoRepeat, ReadsSeparator}
+use Rattle.grammar.specs.Grammar.{Separators, Repeats, Control, is_child, is_capture, is_repeat, Doubled, Body, over, control, words, Suffix, NoRepeat, ReadsSeparator}
 use Rattle.grammar.specs.Marks.{begins, ends, closes}
 use Rattle.grammar.specs.Numbers.{numeral}
 use Rattle.grammar.specs.Readings.{Piece, text, Separator, Repeat, NoText}

@@ -1,11 +1,11 @@
 -- The codes of templates that are accepted, and no others.
-use Rattle.std.specs.Prelude.{◌≡◌, ℕ, ◌≤◌, Bool, true, false, cond, not, ◌&&◌, List, [], ◌∷◌, length, Some, None, Option, ◌==◌, nat_le}
+use Rattle.std.specs.Prelude.{◌≡◌, ℕ, ◌≤◌, Bool, true, cond, not, ◌&&◌, List, [], ◌∷◌, length, Some, None, Option, ◌==◌, nat_le}
 use Rattle.std.specs.List.{AllByRecursion as All}
 use Rattle.grammar.specs.Deep.{within_by, limited}
 use Rattle.grammar.specs.Grammar.{Reads}
 use Rattle.grammar.specs.Limits.{step_allowance, piece_allowance, template_limit}
 use Rattle.grammar.specs.Marks.{ends, closes}
-use Rattle.grammar.specs.Readings.{Piece, text, child, capture, repeat, Reading, RepeatOf, Separator, Repeat, Template, Byte}
+use Rattle.grammar.specs.Readings.{Piece, text, child, capture, repeat, Reading, Separator, Repeat, Template, Byte}
 use Rattle.codes.specs.Code.{code}
 use Rattle.codes.specs.Decode.{on_some, template_at}
 use Rattle.codes.specs.Formed.{FormedTemplate}

@@ -1,5 +1,5 @@
 -- What the public calls on codes answer, and what they leave in the caller's buffer.
-use Rattle.std.specs.Prelude.{ℕ, Bool, true, false, cond, List, [], ◌∷◌, ◌++◌, length, drop, Some, None, Ok, Err, Option, Result, nat_le}
+use Rattle.std.specs.Prelude.{ℕ, cond, List, ◌++◌, length, drop, Some, None, Ok, Err, Option, Result, nat_le}
 use Rattle.grammar.specs.Deep.{deep_at}
 use Rattle.grammar.specs.Readings.{Template}
 use Rattle.grammar.specs.Results.{on_ok, on_err}
@@ -8,7 +8,7 @@ use Rattle.codes.specs.Code.{code}
 use Rattle.codes.specs.Faults.{of_formatter}
 use Rattle.codes.specs.Written.{write}
 use Rattle.codes.specs.declared.error.CodeError.{CodeError}
-use Rattle.codes.specs.declared.error.CodeError.TheVariants.{CodeTooLong, NoCode, BufferTooShort}
+use Rattle.codes.specs.declared.error.CodeError.TheVariants.{CodeTooLong, NoCode}
 use Rattle.codes.specs.declared.error.EncodeError.{EncodeError}
 use Rattle.codes.specs.declared.error.EncodeError.TheVariants.{Code}
 

@@ -1,6 +1,6 @@
 -- The code of a reading: a run of commands. Each is written in front of what follows.
 use Rattle.std.specs.Prelude.{ℕ, ◌/◌, ◌%◌, List, [], ◌∷◌}
-use Rattle.grammar.specs.Readings.{Piece, text, child, capture, repeat, Reading, RepeatOf, Separator, Repeat, Template}
+use Rattle.grammar.specs.Readings.{Piece, text, child, capture, repeat, Reading, Separator, Repeat, Template}
 
 -- 4 bytes, most significant first
 abbrev pub word : ℕ → List ℕ → List ℕ

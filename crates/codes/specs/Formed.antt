@@ -1,7 +1,7 @@
 -- Readings whose numbers are in their bounds and whose texts do not adjoin.
-use Rattle.std.specs.Prelude.{ℕ, List, [], ◌∷◌}
+use Rattle.std.specs.Prelude.{List, [], ◌∷◌}
 use Rattle.std.specs.List.{AllByRecursion as All}
-use Rattle.grammar.specs.Readings.{Piece, text, child, capture, repeat, Reading, RepeatOf, Separator, Repeat, Template, Byte, Power, Index, Capture, NoText}
+use Rattle.grammar.specs.Readings.{Piece, text, child, capture, repeat, Reading, Separator, Repeat, Template, Byte, Power, Index, Capture, NoText}
 
 -- the numbers of a piece are in their bounds; F says it of what a repeat has behind its steps
 abbrev pub Fits : {R : Type 0} → (R → Type 0) → Piece R → Type 0

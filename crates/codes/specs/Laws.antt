@@ -1,6 +1,5 @@
 -- What is proved of codes.
-use Rattle.std.specs.Prelude.{◌≡◌, ℕ, ◌*◌, ◌<◌, ◌≤◌, true, List, [], ◌∷◌, ◌++◌, length, Some, None, Option, ◌≢◌}
-use Rattle.std.specs.List.{AllByRecursion as All}
+use Rattle.std.specs.Prelude.{◌≡◌, ℕ, ◌*◌, ◌≤◌, true, List, ◌++◌, length, Some, None, ◌≢◌}
 use Rattle.grammar.specs.Grammar.{Reads}
 use Rattle.grammar.specs.Limits.{step_allowance}
 use Rattle.grammar.specs.Readings.{Template}

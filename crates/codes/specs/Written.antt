@@ -1,10 +1,8 @@
 -- The template written back from a reading.
-use Rattle.std.specs.Prelude.{◌≡◌, ℕ, ◌-◌, ◌*◌, ◌≤◌, Bool, true, false, cond, not, ◌&&◌, ◌||◌, List, [], ◌∷◌, ◌++◌, length, ◌==◌}
-use Rattle.grammar.specs.Readings.{Piece, text, child, capture, repeat, Reading, RepeatOf, Separator, Repeat, Template}
-use Rattle.codes.specs.Formed.{FormedTemplate}
+use Rattle.std.specs.Prelude.{ℕ, Bool, true, false, cond, not, ◌&&◌, ◌||◌, List, [], ◌∷◌, ◌++◌, ◌==◌}
+use Rattle.grammar.specs.Readings.{Piece, text, child, capture, repeat, Reading, Separator, Repeat, Template}
 use Rattle.grammar.specs.Marks.{begins, ends}
 use Rattle.grammar.specs.Numbers.{numeral}
-use Rattle.codes.specs.Code.{code}
 
 -- with each m doubled
 abbrev pub twice : ℕ → List ℕ → List ℕ

@@ -1,5 +1,5 @@
 -- The steps of a path, one by one.
-use Rattle.std.specs.Prelude.{ℕ, ◌+◌, Bool, true, false, cond, List, [], ◌∷◌, length, take, Some, None, Ok, Err, Option, Result, ◌==◌}
+use Rattle.std.specs.Prelude.{ℕ, ◌+◌, cond, List, length, take, Some, None, Ok, Err, Option, Result, ◌==◌}
 use Rattle.grammar.specs.Marks.{up_to}
 use Rattle.grammar.specs.Paths.{index_at}
 use Rattle.grammar.specs.Results.{Fault}

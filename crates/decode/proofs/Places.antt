@@ -3,9 +3,9 @@ use Rattle.std.proofs.Common.{◌≡◌, ℕ, zero, suc, ◌+◌, ◌<◌, ◌�
 use Rattle.std.proofs.lemmas.List.{drop-drop}
 use Rattle.std.proofs.lemmas.Bool.{eqb-true, eqb-false, eq-eqb, ne_eqb, le-leb, lt-leb, false≢true}
 use Rattle.grammar.specs.Limits.{step_allowance, piece_allowance}
-use Rattle.grammar.specs.Readings.{Reading, Repeat, Template}
+use Rattle.grammar.specs.Readings.{Reading, Template}
 use Rattle.codes.specs.Acceptable.{code_limit, repeats, acceptable, decode, CodeOf}
-use Rattle.codes.specs.Code.{Command, never, code_repeat}
+use Rattle.codes.specs.Code.{never, code_repeat}
 use Rattle.codes.specs.Decode.{Got, on_some, word_at, body_at, reading_at, nothing, repeat_at, template_at}
 use Rattle.codes.specs.Formed.{Never, FormedRepeat}
 use Rattle.codes.specs.Forward.{ranges_by, clear_by}
@@ -19,7 +19,7 @@ use Rattle.wire.specs.declared.commands.Command.{Command as Read}
 use Rattle.wire.specs.declared.commands.Command.TheVariants.{End, Power, Byte, Step, Child, Range, Capture}
 use Rattle.decode.specs.declared.walks.Walk.{Walk}
 use Rattle.decode.specs.Walking.{walked, walked_inside, closing, may_end}
-use Rattle.decode.specs.Behind.{behind_separator, behind_command, behind_template, judged, run_from, rest_inside, rest_outside, start}
+use Rattle.decode.specs.Behind.{behind_separator, behind_command, behind_template, judged, rest_inside, rest_outside, start}
 use Rattle.decode.proofs.Turns.{judged_end}
 use Rattle.decode.proofs.Ties.{arm, arm_none, place, word_first, word_tie, read_on, by_command, no_range, no_range_lem, three, range_tie}
 use Rattle.decode.proofs.Rests.{turn_inside, turn_outside, kept_separator, kept_whole, body_inside, body_outside}

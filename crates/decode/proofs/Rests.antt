@@ -1,11 +1,10 @@
 -- What is left of a reading gives the whole answer, from command to command.
-use Rattle.std.proofs.Common.{◌≡◌, ℕ, ◌+◌, ◌≤◌, Bool, true, false, cond, not, ◌&&◌, eqb, leb, List, [], ◌∷◌, length, is_some, Some, None, Option, sym, refl, ap, ◌∙◌, arith}
-use Rattle.grammar.specs.Deep.{within_by}
+use Rattle.std.proofs.Common.{◌≡◌, ℕ, ◌+◌, Bool, true, false, cond, not, ◌&&◌, eqb, leb, List, length, is_some, Some, None, Option, sym, refl, ap, ◌∙◌, arith}
 use Rattle.grammar.specs.Limits.{step_allowance, piece_allowance}
 use Rattle.grammar.specs.Numbers.{bits}
 use Rattle.grammar.specs.Readings.{Piece, Reading, Separator, Repeat, Template}
 use Rattle.grammar.specs.declared.defns.ChildIndex.{ChildIndex}
-use Rattle.codes.specs.Acceptable.{clear, separates, repeats, acceptable}
+use Rattle.codes.specs.Acceptable.{separates, repeats, acceptable}
 use Rattle.codes.specs.Code.{Command, byte, step, point, range, hold}
 use Rattle.codes.specs.Decode.{Got, on_some, nothing, group, body_at, separator_at, repeat_at}
 use Rattle.codes.specs.Forward.{grouped, counted, stepped_by, ranges_by, clear_by}

@@ -1,12 +1,11 @@
 -- One more command of a run, by how far its reading has come.
-use Rattle.std.proofs.Common.{◌≡◌, ℕ, suc, ◌+◌, ◌≤◌, Bool, true, false, cond, not, ◌&&◌, eqb, ltb, leb, List, [], ◌∷◌, Some, None, Option, sym, refl, ap, ◌∙◌, arith}
+use Rattle.std.proofs.Common.{◌≡◌, ℕ, suc, ◌+◌, ◌≤◌, Bool, true, false, cond, not, ◌&&◌, eqb, ltb, leb, List, [], ◌∷◌, Some, None, Option, refl, ap, ◌∙◌, arith}
 use Rattle.std.proofs.lemmas.Bool.{le-leb, lt-leb, ltb-false, ne_eqb}
 use Rattle.grammar.specs.Limits.{step_allowance, piece_allowance}
 use Rattle.codes.specs.Code.{Command, byte, step, point, range, hold}
 use Rattle.codes.specs.Decode.{Got, on_some}
 use Rattle.codes.specs.Forward.{grouped, counted, stepped_by}
-use Rattle.wire.specs.declared.commands.Command.{Command as Read}
-use Rattle.wire.specs.declared.commands.Command.TheVariants.{End, Power, Byte, Step, Child, Range, Capture}
+use Rattle.wire.specs.declared.commands.Command.TheVariants.{Byte, Step, Child, Capture}
 use Rattle.grammar.specs.declared.defns.ChildIndex.{ChildIndex}
 use Rattle.decode.specs.declared.walks.Walk.{Walk}
 use Rattle.decode.specs.Walking.{come, one_piece, walked}

@@ -1,7 +1,6 @@
 -- What stands behind a reading that is allowed.
-use Rattle.std.specs.Prelude.{ℕ, ◌+◌, Bool, true, false, cond, not, ◌&&◌, List, [], ◌∷◌, length, drop, Some, None, Option, ◌==◌, nat_le}
+use Rattle.std.specs.Prelude.{ℕ, ◌+◌, Bool, false, cond, not, ◌&&◌, List, length, drop, Some, None, Option, ◌==◌, nat_le}
 use Rattle.grammar.specs.Limits.{step_allowance, piece_allowance}
-use Rattle.grammar.specs.Readings.{Repeat}
 use Rattle.codes.specs.Acceptable.{separates, repeats, acceptable}
 use Rattle.codes.specs.Code.{Command}
 use Rattle.codes.specs.Decode.{Got, on_some, run_at, nothing, repeat_at, separator_at, template_at}

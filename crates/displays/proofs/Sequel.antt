@@ -1,7 +1,7 @@
 -- The check of a definition goes by its matcher and template, then by its pattern and captures.
-use Rattle.std.proofs.Common.{◌≡◌, ℕ, Bool, true, false, cond, List, Some, None, Ok, Err, Option, Result, sym, refl, ap, ◌∙◌, arith}
+use Rattle.std.proofs.Common.{◌≡◌, ℕ, true, false, List, Some, None, Ok, Err, Option, Result, sym, refl, ap, ◌∙◌, arith}
 use Rattle.std.specs.Result.{result_err}
-use Rattle.engine.specs.Holdings.{Held, View, Kept, load}
+use Rattle.engine.specs.Holdings.{Held, View, load}
 use Rattle.engine.specs.declared.ticket.Ticket.{Ticket}
 use Rattle.grammar.specs.Deep.{DeepFault, deep_at, greatest}
 use Rattle.grammar.specs.Matchers.{Matched, definition_at}
@@ -13,7 +13,7 @@ use Rattle.refusal.specs.declared.error.ParseError.{ParseError}
 use Rattle.templates.specs.Views.{Summary, summary, defined}
 use Rattle.displays.specs.declared.error.ConversionError.{ConversionError}
 use Rattle.displays.specs.declared.error.ConversionError.TheVariants.{Definition, FormatterParseError}
-use Rattle.displays.specs.Checks.{captures_fit, prepared_count, grouped, fits, pattern_fits, checked_by, Handed, Accepted}
+use Rattle.displays.specs.Checks.{captures_fit, grouped, fits, pattern_fits, checked_by, Handed, Accepted}
 
 -- the matcher and the reading, where the template's captures go with the group count
 abbrev with_reading : Matched → Result Template DeepFault → Option ℕ → Result (Matched × Template) ConversionError

@@ -1,9 +1,9 @@
 -- A line depends only on what it visits: on the terms below, and on what is chosen at them.
-use Rattle.std.proofs.Common.{◌≡◌, ℕ, zero, suc, ◌<◌, ◌≤◌, Bool, true, false, cond, ltb, List, [], ◌∷◌, ◌++◌, length, Some, None, Option, sym, refl, ap, ◌∙◌, arith}
+use Rattle.std.proofs.Common.{◌≡◌, ℕ, zero, suc, ◌<◌, ◌≤◌, Bool, true, false, cond, ltb, List, [], ◌∷◌, ◌++◌, length, Some, None, Option, refl, ap, ◌∙◌, arith}
 use Rattle.std.specs.List.{AllByRecursion as All}
 use Rattle.codes.specs.Decode.{on_some}
 use Rattle.engine.specs.declared.span.Span.{Span}
-use Rattle.grammar.specs.Readings.{Piece, text, child, capture, repeat, Reading, Separator, Repeat, Template}
+use Rattle.grammar.specs.Readings.{Piece, text, child, capture, repeat, Separator, Repeat, Template}
 use Rattle.terms.specs.Source.{Source, Same, item}
 use Rattle.lines.specs.Chosen.{Chosen, Choosing}
 use Rattle.lines.specs.Cut.{cut, stopped}

@@ -1,11 +1,11 @@
 -- How the limits and the room cut events.
-use Rattle.std.proofs.Common.{◌≡◌, ℕ, zero, suc, ◌+◌, ◌<◌, ◌≤◌, Bool, true, false, cond, ltb, leb, List, [], ◌∷◌, ◌++◌, length, Some, None, Option, sym, refl, ap, ◌∙◌, subst, arith}
+use Rattle.std.proofs.Common.{◌≡◌, ℕ, zero, suc, ◌+◌, ◌<◌, ◌≤◌, Bool, true, false, cond, ltb, leb, List, [], ◌∷◌, ◌++◌, length, Some, None, sym, refl, ap, ◌∙◌, subst, arith}
 use Rattle.std.proofs.lemmas.Bool.{ltb-true, ltb-false, leb-true, leb-false, lt-ltb, le-leb, cond-true, cond-false}
 use Rattle.std.specs.List.{AllByRecursion as All}
 use Rattle.grammar.proofs.Chains.{nothing, same_some}
 use Rattle.lines.specs.Cut.{Cut, cut, stopped, after, visit_limit, depth_limit}
 use Rattle.lines.specs.Events.{Event, visit, byte, missing}
-use Rattle.lines.specs.Laws.{visits_in, bytes_in, Allowed, Fits, uncut, Ends, Breaks, many, deep, lost, full, Breach, FirstBreach}
+use Rattle.lines.specs.Laws.{visits_in, bytes_in, Allowed, uncut, Ends, Breaks, many, deep, lost, full, FirstBreach}
 use Rattle.lines.specs.declared.error.LineError.{LineError}
 use Rattle.lines.specs.declared.error.LineError.TheVariants.{MissingChild, TooDeep, TooManyVisits, OutputFull}
 

@@ -1,6 +1,6 @@
 -- The children that an index, a path or a range names. An index is a number of 32 bits in two's complement: a negative one counts back from
 -- the last child.
-use Rattle.std.specs.Prelude.{ℕ, suc, ◌+◌, ◌-◌, Bool, true, false, cond, ◌&&◌, List, [], ◌∷◌, length, Some, None, Option, nat_le, nat_lt}
+use Rattle.std.specs.Prelude.{ℕ, suc, ◌+◌, ◌-◌, Bool, cond, ◌&&◌, List, [], ◌∷◌, length, Some, None, Option, nat_le, nat_lt}
 use Rattle.codes.specs.Decode.{on_some}
 use Rattle.terms.specs.Source.{Source, item}
 

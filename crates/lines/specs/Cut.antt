@@ -1,5 +1,5 @@
 -- How the limits and the room cut a line.
-use Rattle.std.specs.Prelude.{ℕ, zero, suc, Bool, true, false, cond, List, [], ◌∷◌, ◌++◌, length, drop, Some, None, Ok, Err, Option, Result, nat_le, nat_lt}
+use Rattle.std.specs.Prelude.{ℕ, zero, suc, cond, List, [], ◌∷◌, ◌++◌, length, drop, Some, None, Ok, Err, Option, Result, nat_le, nat_lt}
 use Rattle.terms.specs.Source.{Source}
 use Rattle.lines.specs.declared.answer.Printed.{Printed}
 use Rattle.lines.specs.declared.answer.Unfinished.{Unfinished}

@@ -3,7 +3,7 @@ use Rattle.std.specs.Prelude.{ℕ, zero, suc, ◌-◌, Bool, true, false, cond, 
 use Rattle.codes.specs.Decode.{on_some}
 use Rattle.engine.specs.Rules.{span_at}
 use Rattle.engine.specs.declared.span.Span.{Span}
-use Rattle.grammar.specs.Readings.{Piece, text, child, capture, repeat, Reading, Separator, Repeat, Template}
+use Rattle.grammar.specs.Readings.{Piece, text, child, capture, repeat, Separator, Repeat, Template}
 use Rattle.terms.specs.Source.{Source}
 use Rattle.lines.specs.Children.{child_of, descend, selected}
 use Rattle.lines.specs.Chosen.{Chosen, Choosing}

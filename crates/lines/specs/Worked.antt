@@ -5,7 +5,7 @@ use Rattle.grammar.specs.Deep.{DeepFault, deep_at}
 use Rattle.grammar.specs.Readings.{Template}
 use Rattle.terms.specs.Source.{Source, source_of}
 use Rattle.lines.specs.Chosen.{Chosen, Choosing, whole}
-use Rattle.lines.specs.Cut.{Cut, printing}
+use Rattle.lines.specs.Cut.{printing}
 use Rattle.lines.specs.declared.error.LineError.TheVariants.{OutputFull}
 
 -- a template that was read

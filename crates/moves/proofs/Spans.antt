@@ -3,7 +3,7 @@ use Rattle.std.proofs.Common.{◌≡◌, ℕ, zero, suc, ◌+◌, ◌-◌, ◌<�
 use Rattle.std.proofs.lemmas.List.{take_all, drop_all, take_rest}
 use Rattle.std.proofs.lemmas.Bool.{cases_lt, ltb-true, ltb-false, leb-true, leb-false}
 use Rattle.std.proofs.lemmas.Bool.Decides.{nat_tests}
-use Rattle.lines.specs.Children.{negative, back, not_before, not_behind, between, selected}
+use Rattle.lines.specs.Children.{not_before, not_behind, between, selected}
 use Rattle.moves.specs.Ends.{first_of, end_of}
 use Rattle.engine.specs.declared.span.Span.{Span}
 use Rattle.lines.specs.Chosen.{spans_by}

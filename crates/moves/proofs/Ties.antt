@@ -1,7 +1,7 @@
 -- The commands of a reading's code do what its pieces say.
-use Rattle.std.proofs.Common.{◌≡◌, ℕ, zero, suc, Bool, true, false, cond, List, [], ◌∷◌, ◌++◌, Some, None, Option, sym, refl, ap, ◌∙◌, append_assoc}
+use Rattle.std.proofs.Common.{◌≡◌, ℕ, suc, Bool, true, false, cond, List, [], ◌∷◌, ◌++◌, Some, None, Option, sym, refl, ap, ◌∙◌}
 use Rattle.std.specs.List.{AllByRecursion as All}
-use Rattle.codes.specs.Code.{word, run as code, bytes as texts, steps, commands, point, range as ranges, code_separator, code_repeat, code as code_of, never}
+use Rattle.codes.specs.Code.{run as code, bytes as texts, commands, point, range as ranges, code_separator, code_repeat, code as code_of, never}
 use Rattle.codes.specs.Code.{Command as Order}
 use Rattle.codes.specs.Decode.{on_some}
 use Rattle.codes.specs.Formed.{Fits, Never, FormedSeparator, FormedRepeat, FormedTemplate}
@@ -11,17 +11,17 @@ use Rattle.grammar.specs.Numbers.{bits, int}
 use Rattle.grammar.specs.Readings.{Piece, text, child, capture, repeat, Separator, Repeat, Template, Index}
 use Rattle.grammar.specs.Readings.{Byte as IsByte}
 use Rattle.lines.specs.Children.{child_of, descend, selected}
-use Rattle.lines.specs.Events.{Event, byte, missing, Context, context, among, bytes, captured, or_missing, is_last, pieces, separator, gap, row, range, repeated, body}
+use Rattle.lines.specs.Events.{Event, byte, Context, context, among, bytes, captured, or_missing, is_last, pieces, separator, gap, row, range, repeated, body}
 use Rattle.terms.specs.Source.{Source}
 use Rattle.wire.proofs.Runs.{stepped, due-steps, past_separator}
 use Rattle.wire.proofs.Wires.{due_end, due_byte, due_child, due_range, due_capture, due-power}
 use Rattle.wire.specs.Ahead.{due, is_end, is_range, past}
 use Rattle.wire.specs.Commands.{index_of}
 use Rattle.wire.specs.declared.commands.Command.{Command}
-use Rattle.wire.specs.declared.commands.Command.TheVariants.{End, Power, Byte, Step, Child, Range, Capture}
-use Rattle.moves.proofs.Runs.{run_append, like_append}
-use Rattle.moves.specs.Run.{State, Outcome, then, run, Like}
-use Rattle.moves.specs.Walk.{or_else, reached, onward, skips, over, amid, row_by, range_by, plain, walk, inside, part_of, outside}
+use Rattle.wire.specs.declared.commands.Command.TheVariants.{Byte, Step, Child, Capture}
+use Rattle.moves.proofs.Runs.{like_append}
+use Rattle.moves.specs.Run.{State, run, Like}
+use Rattle.moves.specs.Walk.{or_else, reached, skips, over, amid, row_by, range_by, plain, walk, inside, part_of, outside}
 
 module _ (m : Source) (show : ℕ → Context → List Event) (t : ℕ) (name : List ℕ) (spans : List (Option Span)) where
   -- readings passed over

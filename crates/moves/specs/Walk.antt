@@ -4,7 +4,7 @@ use Rattle.engine.specs.declared.span.Span.{Span}
 use Rattle.grammar.specs.Numbers.{bits}
 use Rattle.grammar.specs.declared.defns.ChildIndex.{ChildIndex}
 use Rattle.lines.specs.Children.{child_of, selected}
-use Rattle.lines.specs.Events.{Event, byte, missing, Context, context, bytes, captured, or_missing, is_last}
+use Rattle.lines.specs.Events.{Event, byte, Context, context, bytes, captured, or_missing, is_last}
 use Rattle.terms.specs.Source.{Source}
 use Rattle.wire.specs.Ahead.{is_end, is_range, past}
 use Rattle.wire.specs.declared.commands.Command.{Command}

@@ -1,5 +1,5 @@
 -- What is written into a buffer.
-use Rattle.std.specs.Prelude.{◌≡◌, ℕ, ◌+◌, Bool, true, false, cond, List, [], ◌∷◌, ◌++◌, length, drop, Some, None, Option, nat_le, slice_set}
+use Rattle.std.specs.Prelude.{◌≡◌, ℕ, ◌+◌, cond, List, [], ◌∷◌, ◌++◌, length, drop, Some, None, Option, nat_le, slice_set}
 
 -- the buffer with the bytes from a place on
 abbrev pub writes : List ℕ → ℕ → List ℕ → List ℕ

@@ -1,7 +1,7 @@
 -- A visit step by step, from what each call ensures.
-use Rattle.std.proofs.Common.{◌≡◌, ℕ, zero, suc, ◌+◌, ◌-◌, ◌<◌, ◌≤◌, Bool, true, false, cond, eqb, ltb, List, [], ◌∷◌, ◌++◌, length, get_or, take, drop, Some, None, Option, sym, refl, ap, ◌∙◌, append_assoc, arith, length-drop, length-take}
+use Rattle.std.proofs.Common.{◌≡◌, ℕ, suc, ◌+◌, ◌-◌, ◌<◌, ◌≤◌, Bool, true, false, cond, eqb, List, [], ◌∷◌, ◌++◌, length, get_or, take, drop, Some, Option, sym, refl, ap, ◌∙◌, append_assoc, arith, length-drop, length-take}
 use Rattle.std.proofs.lemmas.List.{at_drop_more, at_drop_all, drop_more, drop_all, get_or-take}
-use Rattle.std.proofs.lemmas.Bool.{cond-true, cond-false, eq-eqb, ne_eqb}
+use Rattle.std.proofs.lemmas.Bool.{eq-eqb, ne_eqb}
 use Rattle.codes.specs.Code.{code, run as coded, commands, code_repeat}
 use Rattle.codes.specs.Formed.{FormedTemplate}
 use Rattle.engine.specs.declared.span.Span.{Span}
@@ -12,13 +12,13 @@ use Rattle.lines.proofs.Alike.{line_unfolds}
 use Rattle.lines.proofs.Below.{item_there}
 use Rattle.lines.specs.Children.{selected}
 use Rattle.lines.specs.Chosen.{Chosen, Choosing, Answered, answered}
-use Rattle.lines.specs.Events.{Event, visit, byte, missing, Context, context, encloses, is_last, body, enclosed, shown, line}
+use Rattle.lines.specs.Events.{Event, visit, byte, Context, context, encloses, is_last, body, enclosed, shown, line}
 use Rattle.terms.specs.Source.{Source, item}
 use Rattle.wire.proofs.Wires.{due-power}
 use Rattle.wire.specs.Ahead.{due, is_end, past}
 use Rattle.wire.specs.declared.commands.Command.{Command}
 use Rattle.wire.specs.declared.commands.Command.TheVariants.{Range}
-use Rattle.moves.proofs.Runs.{thence, run_append, like_append}
+use Rattle.moves.proofs.Runs.{thence, like_append}
 use Rattle.moves.proofs.Ties.{walk_over, on_template}
 use Rattle.moves.proofs.Spans.{selected_part}
 use Rattle.moves.specs.Ends.{first_of, end_of, bracketed}

@@ -1,8 +1,8 @@
 -- What a print answers and leaves, from what its events do.
-use Rattle.std.proofs.Common.{◌≡◌, ℕ, ◌+◌, ◌<◌, ◌≤◌, true, false, List, [], length, Some, None, Ok, Err, Option, Result, sym, refl, ap, ◌∙◌, arith}
+use Rattle.std.proofs.Common.{◌≡◌, ℕ, ◌+◌, ◌<◌, ◌≤◌, List, [], length, Some, None, Ok, Err, Option, Result, sym, ap, ◌∙◌, arith}
 use Rattle.std.proofs.lemmas.Bool.{cond-true, cond-false, lt-ltb, le-ltb}
 use Rattle.lines.specs.Chosen.{Choosing}
-use Rattle.lines.specs.Cut.{Cut, cut, stopped, printing, ended, answer, left}
+use Rattle.lines.specs.Cut.{cut, stopped, printing, ended, answer, left}
 use Rattle.lines.specs.Events.{line, alone}
 use Rattle.lines.specs.declared.answer.Printed.{Printed}
 use Rattle.lines.specs.declared.answer.Unfinished.{Unfinished}
@@ -10,7 +10,7 @@ use Rattle.lines.specs.declared.error.LineError.{LineError}
 use Rattle.lines.specs.declared.error.LineError.TheVariants.{NoSuchTerm}
 use Rattle.terms.specs.Source.{Source}
 use Rattle.moves.proofs.Runs.{end_of, leaves, run-cut}
-use Rattle.moves.specs.Run.{State, Outcome, at, penned, outcome, run}
+use Rattle.moves.specs.Run.{Outcome, at, penned, outcome, run}
 use Rattle.moves.specs.declared.pen.Pen.{Pen}
 
 -- the answer to an outcome

@@ -1,8 +1,8 @@
 -- What happens at the parts of a visit.
-use Rattle.std.specs.Prelude.{ℕ, suc, ◌+◌, Bool, cond, List, [], ◌∷◌, ◌++◌, length, take, drop, Option, ◌==◌, slice_index}
+use Rattle.std.specs.Prelude.{ℕ, suc, ◌+◌, Bool, cond, List, [], ◌++◌, length, take, drop, Option, ◌==◌, slice_index}
 use Rattle.engine.specs.declared.span.Span.{Span}
 use Rattle.lines.specs.Chosen.{Choosing, spans_by}
-use Rattle.lines.specs.Events.{Event, Context, context, enclosed, line}
+use Rattle.lines.specs.Events.{Event, Context, enclosed, line}
 use Rattle.terms.specs.Source.{Source}
 use Rattle.wire.specs.Ahead.{ahead}
 use Rattle.wire.specs.declared.commands.Command.{Command}

@@ -1,10 +1,9 @@
 -- The operands and commands of a code by their places.
-use Rattle.std.proofs.Common.{◌≡◌, ℕ, ◌+◌, ◌*◌, ◌<◌, ◌≤◌, Bool, true, false, cond, leb, List, [], ◌∷◌, length, get_or, drop, Some, None, Option, sym, refl, ap, ◌∙◌, arith}
+use Rattle.std.proofs.Common.{◌≡◌, ℕ, ◌+◌, ◌*◌, ◌<◌, ◌≤◌, Bool, true, false, leb, List, [], ◌∷◌, length, get_or, drop, Some, None, sym, refl, ap, ◌∙◌, arith}
 use Rattle.std.proofs.lemmas.List.{drop_more, drop_all, drop-drop}
 use Rattle.std.proofs.lemmas.Bool.{le-leb}
 use Rattle.codes.specs.Decode.{on_some, given}
 use Rattle.grammar.proofs.Chains.{nothing as none, same_some}
-use Rattle.grammar.specs.declared.defns.ChildIndex.{ChildIndex}
 use Rattle.wire.specs.Commands.{first, byte_in, word_in, index_in, power_in, child_in, range_in}
 use Rattle.wire.specs.Reading.{command_at}
 use Rattle.wire.specs.declared.commands.Command.TheVariants.{Power, Child, Range}

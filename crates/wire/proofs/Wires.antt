@@ -1,7 +1,7 @@
 -- The commands of a code, from the readings whose code it is.
 use Rattle.std.proofs.Common.{◌≡◌, ℕ, ◌-◌, List, ◌∷◌, Some, refl, ap}
 use Rattle.codes.proofs.Words.{words, one_byte, indices, captures}
-use Rattle.codes.specs.Code.{word, commands}
+use Rattle.codes.specs.Code.{word}
 use Rattle.codes.specs.Decode.{Got, on_some}
 use Rattle.grammar.specs.Readings.{Byte as IsByte, Power as IsPower, Index, Capture as IsCapture}
 use Rattle.wire.specs.Commands.{first, index_of}

@@ -1,5 +1,5 @@
 -- The operands of commands, by the bytes that stand first.
-use Rattle.std.specs.Prelude.{ℕ, ◌+◌, ◌*◌, Bool, true, false, cond, eqb, leb, List, [], ◌∷◌, drop, Some, None, Option}
+use Rattle.std.specs.Prelude.{ℕ, List, drop, Some, Option}
 use Rattle.codes.specs.Decode.{on_some, Got, word_at, byte_at, index_at, capture_at}
 use Rattle.grammar.specs.Numbers.{int}
 use Rattle.grammar.specs.declared.defns.ChildIndex.{ChildIndex}

@@ -1,5 +1,5 @@
 -- The command that stands first, and the place behind it.
-use Rattle.std.specs.Prelude.{ℕ, ◌+◌, Bool, true, false, cond, List, [], ◌∷◌, Some, None, Option, ◌==◌}
+use Rattle.std.specs.Prelude.{ℕ, ◌+◌, cond, List, [], ◌∷◌, Some, None, Option, ◌==◌}
 use Rattle.codes.specs.Decode.{on_some}
 use Rattle.wire.specs.Commands.{byte_in, index_in, capture_in, power_in, child_in, range_in}
 use Rattle.wire.specs.declared.commands.Command.{Command}

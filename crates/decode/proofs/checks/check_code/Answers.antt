@@ -1,4 +1,4 @@
-use Rattle.std.proofs.Common.{◌≡◌, sym, refl, ◌∙◌, arith}
+use Rattle.std.proofs.Common.{sym, refl, ◌∙◌, arith}
 use Rattle.decode.proofs.Places.{accepted-code, every_code}
 use Rattle.std.proofs.lemmas.Bool.{false≢true}
 use Rattle.decode.proofs.checks.check_code.Goals as goal

@@ -1,4 +1,4 @@
-use Rattle.std.proofs.Common.{◌≡◌, Bool, cond, drop, Some, None, sym, ap, ◌∙◌, arith}
+use Rattle.std.proofs.Common.{Bool, cond, drop, Some, None, sym, ap, ◌∙◌, arith}
 use Rattle.decode.specs.Behind.{rest_inside}
 use Rattle.decode.proofs.Places.{inside_none, inside_ends, inside_goes}
 use Rattle.decode.proofs.ends.inside_end.Goals as goal

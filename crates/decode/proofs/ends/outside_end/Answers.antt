@@ -1,4 +1,4 @@
-use Rattle.std.proofs.Common.{◌≡◌, Bool, cond, drop, Some, None, sym, ap, ◌∙◌, arith}
+use Rattle.std.proofs.Common.{Bool, cond, drop, Some, None, sym, ap, ◌∙◌, arith}
 use Rattle.decode.proofs.Places.{outside-none, outside-ends, outside-goes, outside_stops}
 use Rattle.decode.proofs.ends.outside_end.Goals as goal
 

@@ -1,4 +1,4 @@
-use Rattle.std.proofs.Common.{◌≡◌, Some, None, sym, ap, ◌∙◌, arith, rules}
+use Rattle.std.proofs.Common.{Some, None, sym, ap, ◌∙◌, arith, rules}
 use Rattle.decode.proofs.Places.{separator_by, separator_rest}
 use Rattle.decode.proofs.ends.separator_end.Goals as goal
 

@@ -1,4 +1,4 @@
-use Rattle.std.proofs.Common.{◌≡◌, Some, None, sym, ap, ◌∙◌, arith}
+use Rattle.std.proofs.Common.{Some, None, sym, ap, ◌∙◌, arith}
 use Rattle.decode.proofs.Places.{template_by, template_rest}
 use Rattle.decode.proofs.ends.template_end.Goals as goal
 

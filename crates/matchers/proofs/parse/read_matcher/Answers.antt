@@ -1,5 +1,5 @@
 -- The first byte and the last say which of the four forms it is.
-use Rattle.std.proofs.Common.{◌≡◌, ◌-◌, true, false, arith}
+use Rattle.std.proofs.Common.{◌≡◌, true, false, arith}
 use Rattle.std.proofs.lemmas.Bool.Decides.{nat_tests}
 use Rattle.grammar.specs.Marks.{begins, ends}
 use Rattle.matchers.proofs.Ends.{begins-first, ends_last}

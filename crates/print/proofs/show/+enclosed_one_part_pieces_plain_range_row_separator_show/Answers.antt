@@ -1,13 +1,13 @@
-use Rattle.std.proofs.Common.{◌≡◌, ℕ, suc, ◌+◌, ◌-◌, ◌<◌, ◌≤◌, Bool, true, false, cond, eqb, List, [], ◌∷◌, ◌++◌, length, get_or, take, drop, sym, refl, ap, ◌∙◌, arith}
+use Rattle.std.proofs.Common.{◌≡◌, suc, ◌+◌, ◌-◌, true, false, cond, eqb, [], ◌∷◌, ◌++◌, length, get_or, take, drop, sym, refl, ap, ◌∙◌, arith}
 use Rattle.std.proofs.lemmas.Bool.{eq-eqb, ne_eqb}
 use Rattle.lines.specs.Chosen.{seen}
 use Rattle.lines.specs.Events.{byte, enclosed, line}
 use Rattle.wire.specs.Ahead.{ahead, is_end}
 use Rattle.moves.proofs.Runs.{thence, broke}
-use Rattle.moves.specs.Run.{State, at, outcome, done, run}
+use Rattle.moves.specs.Run.{at, done, run}
 use Rattle.moves.specs.Walk.{onward, over, plain, part_of}
 use Rattle.print.proofs.Steps.{walk_more, row_more, row_all, range_some, range_none, one_more, child_shown, range_part, visited, entered}
-use Rattle.print.specs.Jobs.{powers_of, children_of, below, spans_of, inside_at, part_at, outside_at, one_at, row_at, range_at}
+use Rattle.print.specs.Jobs.{powers_of, children_of, below, spans_of, inside_at, outside_at, row_at}
 use Rattle.print.proofs.show.+enclosed_one_part_pieces_plain_range_row_separator_show.Goals as goal
 use Rattle.print.proofs.show.+enclosed_one_part_pieces_plain_range_row_separator_show.Goals.{one-then-place-row+in_ok-separator, one-else-place-row}
 
