@@ -10,7 +10,7 @@ use Rattle.matching.specs.declared.items.Times.TheVariants.{Once, Maybe, Several
 use Rattle.matching.specs.Ways.{Way, takes, opened, closed}
 use Rattle.matching.specs.Best.{Finder, none, more, or, step, many, taken, at_end, best}
 use Rattle.matching.specs.Items.{has, as_seq}
-use Rattle.matching.specs.Cells.{code, cell, Row, stay, onward, first_of, rests, goes, cell_of}
+use Rattle.matching.specs.Cells.{code, cell, Row, stay, onward, first_or, rests, goes, cell_of}
 use Rattle.matching.proofs.Greatest.{best_top}
 
 code-none : (r : Option (List ℕ)) → code (none r) ≡ stay (code r)
@@ -18,7 +18,7 @@ code-none None = refl
 code-none (Some []) = refl
 code-none (Some (t ∷ ts)) = grind (arith, nat_tests)
 
-code_or : (x y : Option (List ℕ)) → code (or x y) ≡ first_of (code x) (code y)
+code_or : (x y : Option (List ℕ)) → code (or x y) ≡ first_or (code x) (code y)
 code_or None y = refl
 code_or (Some []) y = refl
 code_or (Some (t ∷ ts)) y = grind (arith, nat_tests)
@@ -67,8 +67,8 @@ module _ (s : ℕ → Bool) (f : Finder) where
   at_end_lem Several = refl
   at_end_lem Many = code-none (f [])
 
-  code-many : (cs : List ℕ) → code (many s f cs) ≡ first_of (code (step s (many s f) cs)) (stay (code (f cs)))
-  code-many cs = ap code (many_is cs) ∙ code_or (step s (many s f) cs) (none (f cs)) ∙ ap (first_of (code (step s (many s f) cs))) (code-none (f cs))
+  code-many : (cs : List ℕ) → code (many s f cs) ≡ first_or (code (step s (many s f) cs)) (stay (code (f cs)))
+  code-many cs = ap code (many_is cs) ∙ code_or (step s (many s f) cs) (none (f cs)) ∙ ap (first_or (code (step s (many s f) cs))) (code-none (f cs))
 
   code_one : (cs : List ℕ) → code (more (none (f cs))) ≡ onward (stay (code (f cs)))
   code_one cs = code-more (none (f cs)) (headed-none (f cs)) ∙ ap onward (code-none (f cs))
@@ -77,10 +77,10 @@ module _ (s : ℕ → Bool) (f : Finder) where
     with_byte : (q : Times) → s c ≡ true → code (taken s q f (c ∷ cs)) ≡ goes q (code (f (c ∷ cs))) (code (f cs)) (code (taken s q f cs))
     with_byte Once e = rw e (code_one cs)
     with_byte Maybe e =
-        rw e (code_or (more (none (f cs))) (none (f (c ∷ cs))) ∙ ap (λ n. first_of n (code (none (f (c ∷ cs))))) (code_one cs) ∙ ap (first_of (onward (stay (code (f cs))))) (code-none (f (c ∷ cs))))
+        rw e (code_or (more (none (f cs))) (none (f (c ∷ cs))) ∙ ap (λ n. first_or n (code (none (f (c ∷ cs))))) (code_one cs) ∙ ap (first_or (onward (stay (code (f cs))))) (code-none (f (c ∷ cs))))
     with_byte Several e = rw e (code-more (many s f cs) (headed-many s f cs) ∙ ap onward (code-many cs))
     with_byte Many e =
-        rw e (code_or (more (many s f cs)) (none (f (c ∷ cs))) ∙ ap (λ n. first_of n (code (none (f (c ∷ cs))))) (code-more (many s f cs) (headed-many s f cs)) ∙ ap (first_of (onward (code (many s f cs)))) (code-none (f (c ∷ cs))))
+        rw e (code_or (more (many s f cs)) (none (f (c ∷ cs))) ∙ ap (λ n. first_or n (code (none (f (c ∷ cs))))) (code-more (many s f cs) (headed-many s f cs)) ∙ ap (first_or (onward (code (many s f cs)))) (code-none (f (c ∷ cs))))
 
     no_byte : (q : Times) → s c ≡ false → code (taken s q f (c ∷ cs)) ≡ rests q (code (f (c ∷ cs)))
     no_byte Once e = rw e

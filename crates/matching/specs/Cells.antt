@@ -28,8 +28,8 @@ stay x = cond (x == 0) 0 1
 abbrev pub onward : ℕ → ℕ
 onward x = cond (x == 0) 0 (x + 1)
 
-abbrev pub first_of : ℕ → ℕ → ℕ
-first_of x y = cond (x == 0) y x
+abbrev pub first_or : ℕ → ℕ → ℕ
+first_or x y = cond (x == 0) y x
 
 -- the item takes nothing here
 abbrev pub rests : Times → ℕ → ℕ
@@ -41,9 +41,9 @@ rests Many later = stay later
 -- the item may take a byte here
 abbrev pub goes : Times → ℕ → ℕ → ℕ → ℕ
 goes Once later after again = onward (stay after)
-goes Maybe later after again = first_of (onward (stay after)) (stay later)
-goes Several later after again = onward (first_of again (stay after))
-goes Many later after again = first_of (onward again) (stay later)
+goes Maybe later after again = first_or (onward (stay after)) (stay later)
+goes Several later after again = onward (first_or again (stay after))
+goes Many later after again = first_or (onward again) (stay later)
 
 -- a cell from those of the later items here and a byte on, and from the item's own a byte on
 abbrev pub cell_of : Item → Option ℕ → ℕ → ℕ → ℕ → ℕ

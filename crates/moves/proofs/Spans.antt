@@ -4,7 +4,7 @@ use Rattle.std.proofs.lemmas.List.{take_all, drop_all, take_rest}
 use Rattle.std.proofs.lemmas.Bool.{cases_lt, ltb-true, ltb-false, leb-true, leb-false}
 use Rattle.std.proofs.lemmas.Bool.Decides.{nat_tests}
 use Rattle.lines.specs.Children.{not_before, not_behind, between, selected}
-use Rattle.moves.specs.Ends.{first_of, end_of}
+use Rattle.moves.specs.Ends.{first_index, end_of}
 use Rattle.engine.specs.declared.span.Span.{Span}
 use Rattle.lines.specs.Chosen.{spans_by}
 use Rattle.lines.specs.Events.{captured}
@@ -46,7 +46,7 @@ clamped name from to a b e f =
     (cases_lt (length name) to)
 
 -- ---- a range of children
-begins : (n f c : ℕ) → not_before n f c ≡ leb (first_of n f) c
+begins : (n f c : ℕ) → not_before n f c ≡ leb (first_index n f) c
 begins n f c = grind (arith, nat_tests)
 
 ends : (n g c : ℕ) → c < n → not_behind n g c ≡ ltb c (end_of n g)
@@ -88,11 +88,11 @@ run-between n f g a e c (x ∷ xs) p q h =
 minus_zero : (n : ℕ) → n - 0 ≡ n
 minus_zero n = omega arith
 
-pub selected_part : (m : Source) (t f g : ℕ) → selected m t f g ≡ drop (first_of (length (m.children t)) f) (take (end_of (length (m.children t)) g) (m.children t))
+pub selected_part : (m : Source) (t f g : ℕ) → selected m t f g ≡ drop (first_index (length (m.children t)) f) (take (end_of (length (m.children t)) g) (m.children t))
 selected_part m t f g =
     let n = length (m.children t) in
-    run-between n f g (first_of n f) (end_of n g) 0 (m.children t) (begins n f) (ends n g) (omega arith)
-    ∙ (λ i. drop (minus_zero (first_of n f) i) (take (minus_zero (end_of n g) i) (m.children t)))
+    run-between n f g (first_index n f) (end_of n g) 0 (m.children t) (begins n f) (ends n g) (omega arith)
+    ∙ (λ i. drop (minus_zero (first_index n f) i) (take (minus_zero (end_of n g) i) (m.children t)))
 
 -- ---- what is asked of a source
 pub sized : (count t n : ℕ) (xs : List ℕ) → Some n ≡ size count t xs → n ≡ length xs

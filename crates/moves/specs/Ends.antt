@@ -5,8 +5,8 @@ use Rattle.wire.specs.declared.commands.Command.{Command}
 use Rattle.wire.specs.declared.commands.Command.TheVariants.{End, Power, Byte, Step, Child, Range, Capture}
 
 -- the first place among n that is not before the one that the index names
-abbrev pub first_of : ℕ → ℕ → ℕ
-first_of n i = cond (negative i) (n - back i) i
+abbrev pub first_index : ℕ → ℕ → ℕ
+first_index n i = cond (negative i) (n - back i) i
 
 -- the place behind the last that is not behind the one that the index names
 abbrev pub end_of : ℕ → ℕ → ℕ

@@ -1,7 +1,7 @@
 ghost use Rattle.std.specs.Prelude.{◌≡◌, ◌≤◌, length};
 ghost use Rattle.grammar.specs.Numbers.{bits};
 ghost use Rattle.lines.specs.Children.{place_of};
-ghost use Rattle.moves.specs.Ends.{first_of, end_of};
+ghost use Rattle.moves.specs.Ends.{first_index, end_of};
 ghost use Rattle.moves.specs.Walk.{reached, onward};
 
 use grammar::ChildIndex;
@@ -36,7 +36,7 @@ pub fn place_of(index: ChildIndex, count: usize) -> Option<usize>
 
 // The place among so many children at which a range from an index begins.
 pub fn first_of(index: ChildIndex, count: usize) -> usize
-    ensures { result ≡ first_of count (bits index.0) }
+    ensures { result ≡ first_index count (bits index.0) }
 {
     let word = word_of(index) as usize;
     if word >= 2147483648 {

@@ -1,6 +1,6 @@
 ghost use Rattle.std.specs.Prelude.{◌≡◌, ℕ, ◌+◌, ◌*◌, ◌<◌, ◌≤◌, length, slice_index};
 ghost use Rattle.matching.specs.Items.{has};
-ghost use Rattle.matching.specs.Cells.{cell_of, cell, Row, stay, onward, first_of, rests, goes};
+ghost use Rattle.matching.specs.Cells.{cell_of, cell, Row, stay, onward, first_or, rests, goes};
 
 use matching::{Item, Set, Times};
 
@@ -29,7 +29,7 @@ fn more(cell: u16) -> u16
 }
 
 fn first(one: u16, other: u16) -> u16
-    ensures { result ≡ first_of one other }
+    ensures { result ≡ first_or one other }
 {
     if one == 0 { other } else { one }
 }

@@ -21,7 +21,7 @@ use Rattle.wire.specs.declared.commands.Command.TheVariants.{Range}
 use Rattle.moves.proofs.Runs.{thence, like_append}
 use Rattle.moves.proofs.Ties.{walk_over, on_template}
 use Rattle.moves.proofs.Spans.{selected_part}
-use Rattle.moves.specs.Ends.{first_of, end_of, bracketed}
+use Rattle.moves.specs.Ends.{first_index, end_of, bracketed}
 use Rattle.moves.specs.Run.{State, Outcome, done, then, run, Like}
 use Rattle.moves.specs.Walk.{onward, skips, over, amid, row_by, range_by, walk, inside, part_of, outside}
 
@@ -98,11 +98,11 @@ child_shown show d d' line' cs j c l a b r x y first last s e p q h k =
 
 -- ---- a RANGE
 pub range_part : (m : Source) (show : ℕ → Context → List Event) (t : ℕ) (name : List ℕ) (spans : List (Option Span)) (u : ℕ) (from to : ChildIndex) (l a b r : ℕ) (k : Command) (ks k₂ k₃ : List Command) (n first end : ℕ) (s : State)
-    → k ≡ Range from to l a b r → k₂ ≡ past ks → k₃ ≡ past k₂ → n ≡ length (m.children u) → first ≡ first_of n (bits from.0) → end ≡ end_of n (bits to.0)
+    → k ≡ Range from to l a b r → k₂ ≡ past ks → k₃ ≡ past k₂ → n ≡ length (m.children u) → first ≡ first_index n (bits from.0) → end ≡ end_of n (bits to.0)
     → run (range_by show (amid l a b r) (inside m show t name spans t ks) (inside m show t name spans t k₂) (inside m show t name spans t k₃) (drop first (take end (m.children u)))) s ≡ run (part_of m show t name spans u k ks) s
 range_part m show t name spans u from to l a b r k ks k₂ k₃ n first end s i e f g h j =
     let chosen : drop first (take end (m.children u)) ≡ selected m u (bits from.0) (bits to.0) =
-    (λ z. drop (h z) (take (j z) (m.children u))) ∙ (λ z. drop (first_of (g z) (bits from.0)) (take (end_of (g z) (bits to.0)) (m.children u))) ∙ sym (selected_part m u (bits from.0) (bits to.0)) in
+    (λ z. drop (h z) (take (j z) (m.children u))) ∙ (λ z. drop (first_index (g z) (bits from.0)) (take (end_of (g z) (bits to.0)) (m.children u))) ∙ sym (selected_part m u (bits from.0) (bits to.0)) in
     (λ z. run (range_by show (amid l a b r) (inside m show t name spans t ks) (inside m show t name spans t (e z)) (inside m show t name spans t ((f ∙ ap past e) z)) (chosen z)) s)
     ∙ ap (λ k. run (part_of m show t name spans u k ks) s) (sym i)
 
