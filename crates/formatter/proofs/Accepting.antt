@@ -5,7 +5,7 @@ use Rattle.refusal.specs.Refusals.{of_template}
 use Rattle.grammar.specs.Deep.{DeepFault, deep_from, deepened, reading_at, deep_at, greatest}
 use Rattle.grammar.specs.Limits.{piece_allowance, template_limit}
 use Rattle.grammar.specs.Readings.{Piece, Repeat, Template}
-use Rattle.grammar.specs.Results.{on_ok, on_err, located, refusal, Fault}
+use Rattle.grammar.specs.Results.{on_ok, on_err, located, refusal}
 use Rattle.refusal.specs.declared.error.FormatterError.TheVariants.{TemplateTooLong}
 use Rattle.grammar.specs.Templates.{Typed, body_at, template_at, formatter_at}
 use Rattle.grammar.proofs.Chains.{by_on_ok, by_on_err, same_ok, refused}

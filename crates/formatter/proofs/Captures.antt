@@ -2,7 +2,7 @@
 use Rattle.std.proofs.Common.{◌≡◌, ℕ, ◌+◌, max, List, [], ◌∷◌, Some, None, Ok, Option, sym, refl, ap, ◌∙◌, arith}
 use Rattle.grammar.specs.Deep.{texted, plains, repeat_from, deep_from, most}
 use Rattle.grammar.specs.Marks.{halve}
-use Rattle.grammar.specs.Readings.{Piece, capture, Repeat}
+use Rattle.grammar.specs.Readings.{Piece, Repeat}
 use Rattle.grammar.specs.Shapes.{Shape, typed_text, typed_child, typed_repeat, typed_capture}
 use Rattle.grammar.specs.Templates.{greater, most_typed}
 use Rattle.grammar.proofs.Chains.{by_on_ok, same_ok}

@@ -1,7 +1,7 @@
 -- The whole reading, put together from the template's and its separators'.
 use Rattle.std.proofs.Common.{◌≡◌, ℕ, List, drop, None, Ok, Err, Option, Result, sym, refl, ap, ◌∙◌, ap₂}
 use Rattle.refusal.specs.Refusals.{of_template}
-use Rattle.grammar.specs.Deep.{DeepFault, deep_from, most, most_between, greatest}
+use Rattle.grammar.specs.Deep.{DeepFault, deep_from, most_between, greatest}
 use Rattle.grammar.specs.Limits.{piece_allowance}
 use Rattle.grammar.specs.Readings.{Piece, Repeat, Template}
 use Rattle.grammar.specs.Results.{on_ok, on_err, Fault}

@@ -1,5 +1,5 @@
 -- The template for every name that nothing else matches.
-use Rattle.std.specs.Prelude.{ℕ, Bool, true, false, cond, List, [], ◌∷◌, Some, None, Ok, Err, codes, Option, Result, ◌==◌}
+use Rattle.std.specs.Prelude.{ℕ, cond, List, Some, None, Ok, Err, codes, Option, Result, ◌==◌}
 use Rattle.formatter.specs.declared.defns.Formatter.{Formatter}
 use Rattle.formatter.specs.declared.error.FallbackParseError.{FallbackParseError}
 use Rattle.formatter.specs.declared.error.FallbackParseError.TheVariants.{MaxCaptureTooLarge, FormatterParseError}

@@ -1,11 +1,10 @@
 -- A template is accepted exactly where the grammar and the limits give it a reading; that reading is answered; none has two.
-use Rattle.std.specs.Prelude.{◌≡◌, ℕ, ◌+◌, ◌≤◌, Bool, true, false, cond, List, [], ◌∷◌, length, drop, Some, None, Ok, Err, Result}
+use Rattle.std.specs.Prelude.{◌≡◌, ℕ, ◌+◌, ◌≤◌, true, List, [], ◌∷◌, length, drop, Some, None, Ok, Err, Result}
 use Rattle.formatter.specs.declared.defns.Formatter.{Formatter}
 use Rattle.grammar.specs.Deep.{DeepFault, deep_from, greatest, limited}
 use Rattle.grammar.specs.Grammar.{Reads}
 use Rattle.grammar.specs.Limits.{piece_allowance, template_limit}
-use Rattle.grammar.specs.Readings.{Piece, Reading, Repeat, Template}
-use Rattle.grammar.specs.Results.{on_ok, Fault}
+use Rattle.grammar.specs.Readings.{Piece, Repeat, Template}
 use Rattle.grammar.specs.Shapes.{Shape}
 use Rattle.grammar.specs.Templates.{body_at}
 use Rattle.templates.specs.Views.{output_at}

@@ -1,5 +1,5 @@
 -- What the readers of separators answer, and the whole reading by the bytes that the answer borrows.
-use Rattle.std.specs.Prelude.{ℕ, ◌+◌, ◌≤◌, max, Bool, true, false, cond, leb, List, [], ◌∷◌, length, take, drop, Some, None, Ok, Err, Option, Result}
+use Rattle.std.specs.Prelude.{ℕ, ◌≤◌, max, List, length, Some, None, Ok, Err, Option, Result}
 use Rattle.controls.specs.declared.defns_const.SubFormatterConst.{SubFormatterConst}
 use Rattle.controls.specs.declared.defns_const.SubFormatterConst.TheVariants.{String, Single, Repeat, Capture}
 use Rattle.formatter.specs.declared.defns.Formatter.{Formatter}
@@ -7,7 +7,7 @@ use Rattle.grammar.specs.Deep.{DeepFault, deepened, deep_from, greatest, most_be
 use Rattle.grammar.specs.Limits.{template_limit}
 use Rattle.grammar.specs.Marks.{halve}
 use Rattle.grammar.specs.Results.{on_ok, on_err, Fault}
-use Rattle.grammar.specs.Shapes.{TypedRepeat, Shape, typed_text, typed_child, typed_repeat, typed_capture}
+use Rattle.grammar.specs.Shapes.{Shape, typed_text, typed_child, typed_repeat, typed_capture}
 use Rattle.grammar.specs.Templates.{Typed, template_at, formatter_at, most_typed}
 use Rattle.refusal.specs.Refusals.{of_template, carried}
 use Rattle.refusal.specs.declared.error.InSeparator.{InSeparator}

@@ -1,6 +1,6 @@
 -- Answers in sequence, taken apart.
-use Rattle.std.proofs.Common.{◌≡◌, ℕ, Some, None, Ok, Err, Option, Result, sym, refl, ap, ◌∙◌, arith}
-use Rattle.grammar.specs.Results.{on_ok, on_err, on_some}
+use Rattle.std.proofs.Common.{◌≡◌, ℕ, Some, None, Ok, Err, Option, Result, refl, ap, arith}
+use Rattle.grammar.specs.Results.{on_ok, on_err}
 
 pub by_on_ok : {A B E : Type 0} (m : Result A E) (f : A → Result B E) (r : B) → on_ok m f ≡ Ok r → (v : A) × (m ≡ Ok v) × (f v ≡ Ok r)
 by_on_ok (Ok v) f r e = (v, refl, e)

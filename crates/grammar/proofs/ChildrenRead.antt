@@ -1,23 +1,22 @@
 -- The readers of children and captures accept just those of the grammar.
-use Rattle.std.proofs.Common.{◌≡◌, ℕ, zero, suc, ◌+◌, ◌-◌, ◌<◌, ◌≤◌, Bool, true, false, cond, ◌&&◌, ◌||◌, eqb, leb, List, [], ◌∷◌, ◌++◌, length, take, drop, ℤ, pos, negsuc, Ok, Err, Result, sym, refl, ap, ◌∙◌, subst, append_assoc, arith, length-append}
+use Rattle.std.proofs.Common.{◌≡◌, ℕ, ◌+◌, ◌-◌, ◌<◌, Bool, true, false, cond, eqb, leb, List, [], ◌∷◌, ◌++◌, length, ℤ, pos, negsuc, Ok, Result, sym, refl, ap, ◌∙◌, subst, arith}
 use Rattle.std.proofs.lemmas.List.{append-nil}
 use Rattle.std.proofs.lemmas.Bool.Decides.{nat_tests}
 use Rattle.grammar.specs.declared.defns.BindPowerPair.{BindPowerPair}
 use Rattle.grammar.specs.declared.defns.ChildIndex.{ChildIndex}
-use Rattle.grammar.specs.Controls.{child_powers, child_at, captured, capture_at}
+use Rattle.grammar.specs.Controls.{child_at, captured, capture_at}
 use Rattle.grammar.specs.Grammar.{Path, Pair, ChildPowers, untyped, typed}
 use Rattle.grammar.specs.Limits.{step_allowance}
-use Rattle.grammar.specs.Marks.{up_to}
 use Rattle.grammar.specs.Numbers.{number_at, bits, numeral, int}
 use Rattle.grammar.specs.Paths.{path_at, steps_of}
 use Rattle.grammar.specs.Powers.{asymmetric, symmetric, pair_at}
 use Rattle.grammar.specs.Readings.{Capture}
-use Rattle.grammar.specs.Results.{on_ok, refusal, Fault}
+use Rattle.grammar.specs.Results.{on_ok, Fault}
 use Rattle.grammar.specs.Shapes.{Shape, typed_child, typed_capture}
 use Rattle.grammar.proofs.Bytes.{Each, Without, each_weaken, each_without, orb_right, without_append}
 use Rattle.grammar.proofs.Chains.{by_on_ok, same_ok, refused}
 use Rattle.grammar.proofs.MarksFound.{Cut, whole, parted, cut, up_to_at, whole_test, whole_take, parted_test, parted-take, parted-drop}
-use Rattle.grammar.proofs.Numerals.{number_forth, number_back, numeral-without}
+use Rattle.grammar.proofs.Numerals.{number_forth, number_back}
 use Rattle.grammar.proofs.PathsRead.{is_path, path-without, path_forth, path-back}
 use Rattle.grammar.proofs.PowersRead.{is_pair, is_powers, pair_forth, pair_back_lem, pair_bytes}
 

@@ -4,7 +4,7 @@ use Rattle.std.proofs.lemmas.Bool.{and_parts, and_from}
 use Rattle.refusal.specs.Refusals.{carried}
 use Rattle.refusal.specs.declared.error.Side.{Side}
 use Rattle.refusal.specs.declared.error.Side.TheVariants.{Left, Middle, Right}
-use Rattle.grammar.specs.Deep.{plainly, separator_at, deeply, repeat_from, within, limited_separator, limited_repeat}
+use Rattle.grammar.specs.Deep.{plainly, separator_at, deeply, repeat_from, limited_separator, limited_repeat}
 use Rattle.grammar.specs.Grammar.{Separators, unwritten, single, triple, Repeats, ReadsSeparator}
 use Rattle.grammar.specs.Marks.{halve, closes}
 use Rattle.grammar.specs.Readings.{Piece, RepeatOf, Separator, Repeat}

@@ -1,10 +1,10 @@
 -- Where the first mark of a text is found, and what stands there.
-use Rattle.std.proofs.Common.{◌≡◌, ℕ, zero, suc, ◌+◌, ◌-◌, ◌<◌, ◌≤◌, Bool, true, false, cond, ◌&&◌, eqb, List, [], ◌∷◌, ◌++◌, length, take, drop, Some, None, Option, sym, refl, ap, ◌∙◌, subst, arith, length-append}
+use Rattle.std.proofs.Common.{◌≡◌, ℕ, suc, ◌+◌, ◌≤◌, Bool, true, false, cond, ◌&&◌, eqb, List, [], ◌∷◌, ◌++◌, length, take, drop, Some, None, sym, refl, ap, ◌∙◌, subst, arith, length-append}
 use Rattle.std.proofs.lemmas.List.{take_all}
 use Rattle.std.proofs.lemmas.Bool.{or_parts, or_from, and_right as and-false}
 use Rattle.std.proofs.lemmas.Bool.Decides.{nat_tests}
 use Rattle.grammar.specs.Marks.{begins, up_to, unpaired, halve, first_mark, closes}
-use Rattle.grammar.proofs.Bytes.{Without, eqb_self, and_left, and_right}
+use Rattle.grammar.proofs.Bytes.{Without, eqb_self}
 use Rattle.grammar.proofs.Chains.{same_some, nothing}
 
 -- ---- lists

@@ -1,5 +1,5 @@
 -- The numbers of a template are the canonical decimals of 32 bits.
-use Rattle.std.proofs.Common.{◌≡◌, ℕ, zero, suc, ◌+◌, ◌-◌, ◌*◌, ◌^◌, ◌<◌, ◌≤◌, Bool, true, false, cond, ◌&&◌, ◌||◌, eqb, leb, List, [], ◌∷◌, ◌++◌, length, get_or, ℤ, pos, negsuc, neg_ℤ, Ok, Err, decimal, Result, sym, refl, ap, ◌∙◌, subst, arith, w32, SFits, rules}
+use Rattle.std.proofs.Common.{◌≡◌, ℕ, zero, suc, ◌+◌, ◌-◌, ◌*◌, ◌^◌, ◌<◌, ◌≤◌, Bool, true, false, cond, ◌||◌, eqb, leb, List, [], ◌∷◌, length, get_or, ℤ, pos, negsuc, neg_ℤ, Ok, Err, decimal, Result, sym, refl, ap, ◌∙◌, subst, arith, w32, SFits, rules}
 use Rattle.std.proofs.lemmas.Bool.Decides.{nat_tests}
 use Rattle.std.proofs.lemmas.Str.Parse.{IsNumeralModel, numerals_by_fold}
 use Rattle.std.proofs.lemmas.Fmt.{digits_decimal, digits_value-decimal, first_decimal, decimal-digits_value, decimal_nonempty, decimal_digit}
@@ -10,7 +10,7 @@ use Rattle.grammar.specs.declared.defns.ChildIndex.{ChildIndex}
 use Rattle.grammar.specs.Numbers.{is_digit, digits_from, signed_by, number_at, bits, int, numeral, power, power_at}
 use Rattle.grammar.specs.Paths.{is_max, index_at}
 use Rattle.grammar.specs.Readings.{Power, Index}
-use Rattle.grammar.specs.Results.{on_ok, refusal, Fault}
+use Rattle.grammar.specs.Results.{refusal, Fault}
 use Rattle.grammar.proofs.Bytes.{Each, Without, and_left, and_right, each_weaken, each_without}
 use Rattle.grammar.proofs.Chains.{by_on_ok, same_ok, refused}
 

@@ -1,5 +1,5 @@
 -- The reader of paths accepts just the paths of the grammar.
-use Rattle.std.proofs.Common.{◌≡◌, ℕ, zero, suc, ◌+◌, ◌-◌, ◌<◌, ◌≤◌, Bool, true, false, cond, ◌||◌, eqb, leb, List, [], ◌∷◌, ◌++◌, length, drop, Ok, Err, Result, sym, refl, ap, ◌∙◌, subst, arith}
+use Rattle.std.proofs.Common.{◌≡◌, ℕ, zero, suc, ◌+◌, ◌-◌, ◌<◌, ◌≤◌, Bool, true, false, cond, ◌||◌, eqb, leb, List, [], ◌∷◌, ◌++◌, length, Ok, sym, refl, ap, ◌∙◌, subst, arith}
 use Rattle.std.proofs.lemmas.Bool.Decides.{nat_tests}
 use Rattle.refusal.specs.declared.error.FormatterError.TheVariants.{MissingHash, TooManyChildren}
 use Rattle.grammar.specs.declared.defns.ChildIndex.{ChildIndex}
@@ -8,7 +8,7 @@ use Rattle.grammar.specs.Limits.{step_allowance}
 use Rattle.grammar.specs.Numbers.{number_at, bits, numeral, int}
 use Rattle.grammar.specs.Paths.{index_at, on_first, split_on, steps_from, path_at, value_of, step_values, steps_of}
 use Rattle.grammar.specs.Readings.{Index}
-use Rattle.grammar.specs.Results.{on_ok, refusal, Fault}
+use Rattle.grammar.specs.Results.{refusal}
 use Rattle.grammar.proofs.Bytes.{Each, Without, each_append, each_weaken, each_without, eqb_self, orb_right}
 use Rattle.grammar.proofs.Chains.{by_on_ok, same_ok, refused}
 use Rattle.grammar.proofs.Numerals.{bits-int, number_back, index_forth, index_back, is_numeral, numeral-bytes, numeral-without}

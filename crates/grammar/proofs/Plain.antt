@@ -1,10 +1,10 @@
 -- What holds no `)$` holds no repeat: it reads in the same way with repeats allowed and without.
-use Rattle.std.proofs.Common.{◌≡◌, ℕ, suc, ◌≤◌, true, false, ◌&&◌, eqb, leb, List, [], ◌∷◌, ◌++◌, length, sym, refl, ap, ◌∙◌, subst, ap₂, append_assoc, arith}
-use Rattle.std.proofs.lemmas.Bool.{and_parts, and_from, leb-true, le-leb, or_parts, or_from, and_right, false≢true}
+use Rattle.std.proofs.Common.{◌≡◌, ℕ, suc, ◌≤◌, true, false, ◌&&◌, leb, List, [], ◌∷◌, ◌++◌, length, sym, refl, ap, ◌∙◌, subst, ap₂, append_assoc, arith}
+use Rattle.std.proofs.lemmas.Bool.{and_parts, and_from, leb-true, le-leb, false≢true}
 use Rattle.grammar.specs.Deep.{texted, plains, limited_by, limited_separator}
 use Rattle.grammar.specs.Grammar.{is_child, is_capture, is_repeat, Body, over, control, words, Prefix, Suffix, ReadsBy, NoRepeat, ReadsSeparator}
 use Rattle.grammar.specs.Limits.{step_allowance, piece_allowance}
-use Rattle.grammar.specs.Marks.{begins, closes, halve}
+use Rattle.grammar.specs.Marks.{closes, halve}
 use Rattle.grammar.specs.Numbers.{numeral, bits}
 use Rattle.grammar.specs.Paths.{steps_of}
 use Rattle.grammar.specs.Readings.{Piece, text, child, capture, repeat, Reading, Separator, NoText}

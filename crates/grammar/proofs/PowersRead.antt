@@ -1,11 +1,9 @@
 -- The readers of powers accept just the powers of the grammar.
-use Rattle.std.proofs.Common.{◌≡◌, ℕ, zero, suc, ◌+◌, ◌-◌, ◌<◌, ◌≤◌, Bool, true, false, cond, ◌||◌, eqb, List, [], ◌∷◌, ◌++◌, length, take, drop, Ok, Err, Result, sym, refl, ap, ◌∙◌, subst, append_assoc, arith}
-use Rattle.std.proofs.lemmas.Bool.Decides.{nat_tests}
+use Rattle.std.proofs.Common.{◌≡◌, ℕ, ◌+◌, ◌-◌, Bool, true, false, cond, ◌||◌, eqb, List, [], ◌∷◌, ◌++◌, length, Ok, Result, sym, refl, ap, ◌∙◌, subst, append_assoc, arith}
 use Rattle.refusal.specs.declared.error.FormatterError.TheVariants.{TooManyControl, UnexpectedPair}
 use Rattle.refusal.specs.declared.error.PartingMark.TheVariants.{Comma, Bar}
 use Rattle.grammar.specs.declared.defns.BindPowerPair.{BindPowerPair}
 use Rattle.grammar.specs.Grammar.{Pair, one, two, Powers, none, a as all, ab, a_b, ab_c, a_bc, a_b_c, a_bc_d}
-use Rattle.grammar.specs.Marks.{up_to}
 use Rattle.grammar.specs.Numbers.{power_at, numeral}
 use Rattle.grammar.specs.Powers.{asymmetric, symmetric, second_power, pair_at, last_field, Triple, behind_single, powers_at}
 use Rattle.grammar.specs.Readings.{Power}

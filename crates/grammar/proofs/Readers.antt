@@ -1,9 +1,5 @@
 -- The readers accept exactly what the grammar and the limits have, and no template has two readings.
-use Rattle.std.proofs.Common.{◌≡◌, ℕ, true, List}
-use Rattle.grammar.specs.Deep.{limited}
-use Rattle.grammar.specs.Grammar.{Reads}
 use Rattle.grammar.specs.Laws.{ReadAsTheGrammar, OneReading}
-use Rattle.grammar.specs.Readings.{Template}
 use Rattle.grammar.proofs.ControlsRead.{control_forth, control_back}
 use Rattle.grammar.proofs.Opens.{separators_open}
 use Rattle.grammar.proofs.UnreadRead.{unread_forth, unread_back}

@@ -5,7 +5,7 @@ use Rattle.std.proofs.lemmas.Bool.{true≢false, eqb-true, eqb-false, ne_eqb}
 use Rattle.grammar.specs.Grammar.{Control, is_child, is_capture, is_repeat, Doubled, done, mark, other, Body, over, control, words}
 use Rattle.grammar.specs.Marks.{begins, unpaired, halve}
 use Rattle.grammar.specs.Numbers.{numeral}
-use Rattle.grammar.specs.Readings.{Piece, text, NoText}
+use Rattle.grammar.specs.Readings.{Piece, NoText}
 use Rattle.grammar.proofs.MarksFound.{halve_other, unpaired_other}
 
 -- what stops a text: the end, or a `$` with no second one behind it

@@ -1,14 +1,14 @@
 -- The reading of a template whose separators are still texts, and what is proved of it on the way to the whole.
-use Rattle.std.proofs.Common.{◌≡◌, ℕ, ◌+◌, ◌≤◌, Bool, true, false, ◌&&◌, List, [], ◌∷◌, ◌++◌, length, Ok, Err, Result}
+use Rattle.std.proofs.Common.{◌≡◌, ℕ, Bool, true, false, List, [], ◌∷◌, ◌++◌, length, Ok}
 use Rattle.grammar.specs.Controls.{control_at}
-use Rattle.grammar.specs.Deep.{texted, within, limited_by, plains}
-use Rattle.grammar.specs.Grammar.{Repeats, Control, Body, ReadsBy, NoRepeat}
+use Rattle.grammar.specs.Deep.{texted, within, limited_by}
+use Rattle.grammar.specs.Grammar.{Repeats, Control, ReadsBy}
 use Rattle.grammar.specs.Marks.{halve, closes}
 use Rattle.grammar.specs.Numbers.{bits}
 use Rattle.grammar.specs.Paths.{steps_of}
-use Rattle.grammar.specs.Readings.{Piece, text, child, capture, repeat, Reading, RepeatOf, Unread, Separator}
+use Rattle.grammar.specs.Readings.{Piece, child, capture, repeat, RepeatOf, Unread}
 use Rattle.grammar.specs.Shapes.{TypedRepeat, Shape, typed_text, typed_child, typed_repeat, typed_capture}
-use Rattle.grammar.specs.Templates.{Typed, body_at, template_at}
+use Rattle.grammar.specs.Templates.{Typed, template_at}
 
 -- a separator as a text stands for itself
 abbrev pub Itself : List ℕ → List ℕ → Type 0

@@ -1,5 +1,5 @@
 -- What a control of a template is: a child, a repeat or a capture.
-use Rattle.std.specs.Prelude.{ℕ, suc, ◌+◌, ◌-◌, Bool, true, false, cond, List, [], ◌∷◌, length, take, drop, ℤ, pos, negsuc, Ok, Err, Result, ◌==◌}
+use Rattle.std.specs.Prelude.{ℕ, suc, ◌+◌, ◌-◌, cond, List, [], ◌∷◌, length, take, drop, ℤ, pos, negsuc, Ok, Result, ◌==◌}
 use Rattle.refusal.specs.declared.error.ClosingMark.{ClosingMark}
 use Rattle.refusal.specs.declared.error.ClosingMark.TheVariants.{Square, Round, Curly}
 use Rattle.refusal.specs.declared.error.FormatterError.TheVariants.{MissingRange, MissingControl, TooManyControl, IncorrectControl, CaptureOverflow}
@@ -11,7 +11,7 @@ use Rattle.grammar.specs.Numbers.{number_at}
 use Rattle.grammar.specs.Paths.{index_at, path_at}
 use Rattle.grammar.specs.Powers.{symmetric, pair_at, powers_at, Triple}
 use Rattle.grammar.specs.Results.{on_ok, on_some, refusal, Fault}
-use Rattle.grammar.specs.Shapes.{TypedRepeat, Shape, typed_text, typed_child, typed_repeat, typed_capture}
+use Rattle.grammar.specs.Shapes.{Shape, typed_child, typed_repeat, typed_capture}
 
 -- the pair behind a child's path, of which the first bar is at `bar`: the typed forms of a child's powers
 abbrev pub child_powers : ℕ → List ℕ → ℕ → Result BindPowerPair Fault

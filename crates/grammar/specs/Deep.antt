@@ -1,5 +1,5 @@
 -- What a template is with its separators read, and its greatest capture.
-use Rattle.std.specs.Prelude.{ℕ, ◌+◌, Bool, true, false, cond, ◌&&◌, List, [], ◌∷◌, length, Some, None, Ok, Err, Option, Result, nat_le}
+use Rattle.std.specs.Prelude.{ℕ, ◌+◌, Bool, true, cond, ◌&&◌, List, [], ◌∷◌, length, None, Ok, Err, Option, Result, nat_le}
 use Rattle.refusal.specs.Refusals.{of_template, carried}
 use Rattle.refusal.specs.declared.error.DeepError.{DeepError}
 use Rattle.refusal.specs.declared.error.FormatterError.TheVariants.{TemplateTooLong}
@@ -10,7 +10,7 @@ use Rattle.grammar.specs.Limits.{step_allowance, piece_allowance, template_limit
 use Rattle.grammar.specs.Marks.{halve}
 use Rattle.grammar.specs.Numbers.{bits}
 use Rattle.grammar.specs.Paths.{steps_of}
-use Rattle.grammar.specs.Readings.{Piece, text, child, capture, repeat, Reading, RepeatOf, Separator, Repeat, Template}
+use Rattle.grammar.specs.Readings.{Piece, text, child, capture, repeat, Reading, Separator, Repeat, Template}
 use Rattle.grammar.specs.Results.{on_ok, on_err, located}
 use Rattle.grammar.specs.Shapes.{TypedRepeat, Shape, typed_text, typed_child, typed_repeat, typed_capture}
 use Rattle.grammar.specs.Templates.{Typed, template_at, greater}

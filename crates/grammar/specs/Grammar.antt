@@ -1,8 +1,8 @@
 -- The template grammar, as a relation between bytes and readings.
-use Rattle.std.specs.Prelude.{◌≡◌, ℕ, Bool, true, false, List, [], ◌∷◌, ◌++◌, ◌≢◌}
+use Rattle.std.specs.Prelude.{◌≡◌, ℕ, false, List, [], ◌∷◌, ◌++◌, ◌≢◌}
 use Rattle.grammar.specs.Marks.{begins, ends, closes}
 use Rattle.grammar.specs.Numbers.{numeral}
-use Rattle.grammar.specs.Readings.{Piece, text, child, capture, repeat, Reading, RepeatOf, Separator, Repeat, Template, Power, Index, Capture, NoText}
+use Rattle.grammar.specs.Readings.{Piece, text, child, capture, repeat, Reading, RepeatOf, Separator, Template, Power, Index, Capture, NoText}
 
 -- a path behind its `#`: each step is a number with `:` behind it, and the index comes last
 pub data Path : List ℕ → List ℕ → ℕ → Type 0 where

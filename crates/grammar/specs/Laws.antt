@@ -1,5 +1,5 @@
 -- What is proved of the readers: they accept what the grammar and the limits give a reading, and answer that reading.
-use Rattle.std.specs.Prelude.{◌≡◌, ℕ, ◌≤◌, true, List, [], ◌∷◌, length, Ok, Err}
+use Rattle.std.specs.Prelude.{◌≡◌, ℕ, true, List, Ok}
 use Rattle.grammar.specs.Deep.{reading_at, limited}
 use Rattle.grammar.specs.Grammar.{Reads}
 use Rattle.grammar.specs.Readings.{Template}

@@ -1,5 +1,5 @@
 -- What a matcher is, and a definition.
-use Rattle.std.specs.Prelude.{ℕ, suc, ◌+◌, ◌-◌, ◌*◌, Bool, true, false, cond, ◌&&◌, List, [], ◌∷◌, reverse, length, take, drop, Some, None, Ok, Err, Option, Result, ◌==◌, nat_le}
+use Rattle.std.specs.Prelude.{ℕ, suc, ◌-◌, ◌*◌, Bool, true, false, cond, ◌&&◌, List, [], ◌∷◌, reverse, length, take, drop, Some, None, Ok, Err, Option, Result, ◌==◌, nat_le}
 use Rattle.refusal.specs.Refusals.{joint_formatter, joint_matcher}
 use Rattle.refusal.specs.declared.error.EitherError.{EitherError}
 use Rattle.refusal.specs.declared.error.EitherError.TheVariants.{InvalidCapture}

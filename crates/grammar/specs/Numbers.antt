@@ -1,5 +1,5 @@
 -- What a number of a template is, by the bytes that are left to read.
-use Rattle.std.specs.Prelude.{◌≡◌, ℕ, suc, ◌+◌, ◌-◌, ◌*◌, Bool, true, false, cond, ◌&&◌, List, [], ◌∷◌, length, ℤ, pos, negsuc, neg_ℤ, Ok, Err, decimal, Result, ◌==◌, nat_le}
+use Rattle.std.specs.Prelude.{ℕ, suc, ◌+◌, ◌-◌, ◌*◌, Bool, cond, ◌&&◌, List, [], ◌∷◌, length, ℤ, pos, negsuc, neg_ℤ, Ok, Err, decimal, Result, ◌==◌, nat_le}
 use Rattle.refusal.specs.declared.error.FormatterError.TheVariants.{InvalidNumber, NumberOutOfRange}
 use Rattle.grammar.specs.Results.{on_ok, refusal, Fault}
 

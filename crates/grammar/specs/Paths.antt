@@ -1,5 +1,5 @@
 -- What a path of a template is: `#`, and numbers parted by `:`, the last being the index.
-use Rattle.std.specs.Prelude.{ℕ, ◌+◌, ◌-◌, Bool, true, false, cond, List, [], ◌∷◌, length, drop, ℤ, pos, negsuc, Ok, Err, Result, ◌==◌}
+use Rattle.std.specs.Prelude.{ℕ, ◌+◌, ◌-◌, Bool, false, cond, List, [], ◌∷◌, length, drop, ℤ, pos, negsuc, Ok, Err, Result, ◌==◌}
 use Rattle.refusal.specs.declared.error.FormatterError.TheVariants.{InvalidNumber, MissingHash, TooManyChildren}
 use Rattle.grammar.specs.declared.defns.ChildIndex.{ChildIndex}
 use Rattle.grammar.specs.Limits.{step_allowance}

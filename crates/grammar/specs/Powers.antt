@@ -1,5 +1,5 @@
 -- What pairs of powers are, and the powers of a repeat.
-use Rattle.std.specs.Prelude.{ℕ, ◌+◌, ◌-◌, Bool, true, false, cond, List, [], ◌∷◌, length, take, drop, Ok, Err, Result, ◌==◌}
+use Rattle.std.specs.Prelude.{ℕ, ◌+◌, ◌-◌, Bool, true, false, cond, List, length, take, drop, Ok, Result, ◌==◌}
 use Rattle.refusal.specs.declared.error.FormatterError.TheVariants.{TooManyControl, UnexpectedPair}
 use Rattle.refusal.specs.declared.error.PartingMark.TheVariants.{Comma, Bar}
 use Rattle.grammar.specs.declared.defns.BindPowerPair.{BindPowerPair}

@@ -1,5 +1,5 @@
 -- What a reading is. Every number is one of 32 bits; an index is meant in two's complement.
-use Rattle.std.specs.Prelude.{◌≡◌, ℕ, ◌<◌, List, [], ◌∷◌, ◌≢◌}
+use Rattle.std.specs.Prelude.{ℕ, ◌<◌, List, [], ◌∷◌, ◌≢◌}
 
 -- R is what stands in a repeat behind its steps. A text has a first byte and further ones, so none is empty.
 pub data Piece (R : Type 0) : Type 0 where

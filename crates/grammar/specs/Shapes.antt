@@ -1,5 +1,5 @@
 -- A piece of a template as it was typed.
-use Rattle.std.specs.Prelude.{ℕ, List, [], ◌∷◌}
+use Rattle.std.specs.Prelude.{ℕ, List}
 use Rattle.grammar.specs.declared.defns.BindPowerPair.{BindPowerPair}
 use Rattle.grammar.specs.declared.defns.ChildIndex.{ChildIndex}
 

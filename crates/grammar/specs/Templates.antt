@@ -1,5 +1,5 @@
 -- What a template is, its separators unread.
-use Rattle.std.specs.Prelude.{ℕ, zero, suc, ◌+◌, ◌-◌, max, Bool, true, false, cond, List, [], ◌∷◌, length, take, drop, Some, None, Ok, Err, Option, Result, ◌==◌, nat_le}
+use Rattle.std.specs.Prelude.{ℕ, zero, suc, ◌+◌, ◌-◌, max, cond, List, [], ◌∷◌, length, take, drop, Some, None, Ok, Option, Result, ◌==◌, nat_le}
 use Rattle.refusal.specs.declared.error.ClosingMark.TheVariants.{Dollar}
 use Rattle.refusal.specs.declared.error.FormatterError.TheVariants.{MissingControl, TooManyPieces, TemplateTooLong}
 use Rattle.grammar.specs.Controls.{control_at}

@@ -6,7 +6,7 @@ use Rattle.refusal.specs.declared.error.FormatterError.{FormatterError}
 use Rattle.refusal.specs.declared.error.FormatterError.TheVariants.{MissingControl, TooManyControl, InvalidNumber, CaptureOverflow}
 use Rattle.refusal.specs.declared.error.PartingMark.TheVariants.{Bar}
 use Rattle.grammar.specs.Deep.{DeepFault, deep_at}
-use Rattle.grammar.specs.Readings.{Piece, text, child, capture, repeat, Reading, RepeatOf, Separator, Repeat, Template}
+use Rattle.grammar.specs.Readings.{Piece, text, child, repeat, Separator, Repeat, Template}
 use Rattle.grammar.specs.Results.{located}
 
 abbrev pub reads : ℕ → ℕ → List (Piece Repeat) → Result Template DeepFault

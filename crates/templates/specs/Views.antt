@@ -1,5 +1,5 @@
 -- What readers answer, by the bytes that the answer borrows.
-use Rattle.std.specs.Prelude.{ℕ, suc, ◌+◌, Bool, true, false, cond, List, [], ◌∷◌, length, take, drop, Some, None, Ok, Err, Option, Result, ◌==◌}
+use Rattle.std.specs.Prelude.{ℕ, suc, ◌+◌, cond, List, [], ◌∷◌, length, take, drop, Some, None, Ok, Err, Option, Result, ◌==◌}
 use Rattle.controls.specs.Views.{shape}
 use Rattle.controls.specs.declared.defns_const.SubFormatterConst.{SubFormatterConst}
 use Rattle.controls.specs.declared.defns_const.SubFormatterConst.TheVariants.{String, Single, Repeat, Capture}
