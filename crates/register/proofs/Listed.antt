@@ -1,5 +1,5 @@
 -- Every template of a register that calls make is accepted, with a code that is short enough; so its contents choose what it chooses.
-use Rattle.std.proofs.Common.{◌≡◌, ℕ, zero, suc, ◌<◌, ◌≤◌, Bool, true, false, cond, ◌&&◌, eqb, ltb, leb, List, [], ◌∷◌, ◌++◌, map, length, Some, None, Ok, Err, Option, Result, sym, refl, ap, ◌∙◌, arith}
+use Rattle.std.proofs.Common.{◌≡◌, ℕ, zero, suc, ◌<◌, ◌≤◌, Bool, true, false, cond, ◌&&◌, eqb, ltb, leb, List, [], ◌∷◌, ◌++◌, map, length, Some, None, Ok, Err, Option, refl, ap, ◌∙◌, arith}
 use Rattle.std.specs.List.{AllByRecursion as All}
 use Rattle.std.proofs.lemmas.Bool.{leb-true, ltb-true, and_parts}
 use Rattle.codes.specs.Code.{code}
@@ -17,15 +17,14 @@ use Rattle.grammar.proofs.Chains.{by_on_ok, by_on_err, same_ok, refused}
 use Rattle.terms.specs.Source.{Source}
 use Rattle.register.specs.declared.answer.Answer.{Answer}
 use Rattle.register.specs.declared.call.Call.{Call}
-use Rattle.register.specs.declared.error.BookError.{BookError}
 use Rattle.register.specs.declared.error.BookError.TheVariants.{Definition, Fallback, Code, BookFull}
 use Rattle.register.specs.Calls.{template_at}
-use Rattle.register.specs.Contents.{Stored, stored, Contents, contents_of, stored_matchers, decoded, standing_in, chosen_in}
+use Rattle.register.specs.Contents.{stored, contents_of, decoded, standing_in, chosen_in}
 use Rattle.register.specs.Laws.{Reached, Has, defined, fallback}
 use Rattle.register.specs.Register.{Defined, Register, opening, first_fallback, matchers, patterns, place_of, without, reading_of, code_of, short, entered, admitted, serves, served, standing, chosen}
 use Rattle.register.specs.Runs.{Typed, Turn, defines, refuses_definition, withdraws, refuses_withdrawal, replaces, refuses_fallback, looks_up, reads_back, prints, Run, ends, turns}
 use Rattle.register.specs.Standing.{Standing, choosing}
-use Rattle.register.proofs.Storable.{Storable, decoded_is, reading_is}
+use Rattle.register.proofs.Storable.{Storable, decoded_is}
 
 pub record Listed (g : Register) : Type 0 where
   pub definitions : All (λ x. Storable x.template) g.definitions

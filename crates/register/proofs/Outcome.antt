@@ -1,5 +1,5 @@
 -- A string of calls has one outcome.
-use Rattle.std.proofs.Common.{◌≡◌, ℕ, List, [], ◌∷◌, ◌++◌, take, drop, Ok, Err, Result, sym, refl, ap, ◌∙◌, subst}
+use Rattle.std.proofs.Common.{◌≡◌, ℕ, List, [], ◌∷◌, ◌++◌, take, drop, Ok, Err, Result, sym, refl, ap, ◌∙◌}
 use Rattle.engine.specs.Rules.{Rule}
 use Rattle.terms.specs.Source.{Source}
 use Rattle.register.specs.declared.answer.Answer.{Answer}

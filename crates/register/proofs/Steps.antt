@@ -1,18 +1,17 @@
 -- From what calls make of a book's contents to what they make of the register that gives these contents.
-use Rattle.std.proofs.Common.{◌≡◌, ℕ, zero, suc, ◌<◌, ◌≤◌, Bool, true, false, cond, List, [], ◌∷◌, ◌++◌, map, length, Some, None, Ok, Err, Option, Result, sym, refl, ap, ◌∙◌, subst, arith}
+use Rattle.std.proofs.Common.{◌≡◌, ℕ, zero, suc, ◌<◌, Bool, true, false, cond, List, [], ◌∷◌, map, length, Some, None, Ok, Err, Option, Result, sym, refl, ap, ◌∙◌, subst, arith}
 use Rattle.std.specs.List.{AllByRecursion as All}
 use Rattle.codes.specs.Code.{code}
 use Rattle.codes.specs.Calls.{some_or}
 use Rattle.codes.specs.Written.{write}
 use Rattle.engine.specs.Rules.{Rule}
 use Rattle.grammar.specs.Matchers.{Matched, matcher_at}
-use Rattle.grammar.specs.Readings.{Template}
 use Rattle.grammar.specs.Results.{on_ok, on_err}
 use Rattle.grammar.proofs.Chains.{by_on_ok, same_some, nothing, same_ok, refused}
 use Rattle.register.specs.declared.error.BookError.{BookError}
 use Rattle.register.specs.declared.error.BookError.TheVariants.{Matcher, NoneStands}
 use Rattle.register.specs.Calls.{admits, names, template_at, read_back, on_accepted}
-use Rattle.register.specs.Contents.{Stored, stored, Contents, contents_of, stored_matchers, decoded, added_to, removed_from, replaced_in, code_at, read_back_in}
+use Rattle.register.specs.Contents.{stored, Contents, contents_of, stored_matchers, decoded, added_to, removed_from, replaced_in, code_at, read_back_in}
 use Rattle.register.specs.Register.{Defined, Register, matchers, patterns, further, place_of, reading_of, code_of, admitted, named, served, added, removed, replaced}
 use Rattle.register.specs.Standing.{same_matcher}
 use Rattle.register.proofs.Listed.{Listed, is_admitted, is_served, stored-matchers, stored_more, stored-without}

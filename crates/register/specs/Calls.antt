@@ -1,6 +1,5 @@
 -- What each call answers and leaves in its buffer, by the register as it stands before the call.
-use Rattle.std.specs.Prelude.{ℕ, zero, suc, cond, List, [], ◌∷◌, length, Ok, Err, Result}
-use Rattle.codes.specs.Calls.{filled, after}
+use Rattle.std.specs.Prelude.{ℕ, zero, suc, List, [], ◌∷◌, Ok, Err, Result}
 use Rattle.codes.specs.Code.{code}
 use Rattle.codes.specs.Written.{write}
 use Rattle.codes.specs.declared.error.CodeError.TheVariants.{BufferTooShort}
@@ -8,10 +7,8 @@ use Rattle.engine.specs.Rules.{Rule}
 use Rattle.grammar.specs.Matchers.{Matched}
 use Rattle.grammar.specs.Readings.{Template}
 use Rattle.grammar.specs.Results.{on_ok}
-use Rattle.lines.specs.Cut.{Cut, printing, answer, left}
 use Rattle.lines.specs.declared.answer.Printed.{Printed as PrintedTerm}
 use Rattle.lines.specs.declared.answer.Unfinished.{Unfinished as UnfinishedTerm}
-use Rattle.terms.specs.Source.{Source}
 use Rattle.register.specs.declared.answer.Answer.{Answer}
 use Rattle.register.specs.declared.answer.Answer.TheVariants.{Done, Wrote, Printed, Refused, Unfinished}
 use Rattle.register.specs.declared.error.BookError.{BookError}

@@ -1,5 +1,5 @@
 -- What a book keeps: matchers with the codes of their templates, and the fallback's code; and what an engine holds for it.
-use Rattle.std.specs.Prelude.{◌≡◌, ℕ, zero, suc, Bool, true, false, cond, List, [], ◌∷◌, ◌++◌, map, Some, None, Ok, Err, Option, Result, ◌≢◌}
+use Rattle.std.specs.Prelude.{◌≡◌, ℕ, zero, suc, true, List, [], ◌∷◌, ◌++◌, map, Some, Ok, Result, ◌≢◌}
 use Rattle.std.specs.List.{AllByRecursion as All}
 use Rattle.codes.specs.Acceptable.{decode}
 use Rattle.codes.specs.Written.{write}

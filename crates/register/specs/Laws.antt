@@ -1,21 +1,18 @@
 -- What is proved over whole runs: of the registers that strings of calls make, and of what the books show.
-use Rattle.std.specs.Prelude.{◌≡◌, ℕ, ◌<◌, ◌≤◌, List, [], ◌∷◌, ◌++◌, length, Ok}
+use Rattle.std.specs.Prelude.{◌≡◌, ℕ, ◌<◌, List, [], ◌++◌, length, Ok}
 use Rattle.std.specs.List.{AllByRecursion as All}
-use Rattle.codes.specs.Acceptable.{code_limit, AcceptedAs}
+use Rattle.codes.specs.Acceptable.{AcceptedAs}
 use Rattle.codes.specs.Calls.{written_back}
-use Rattle.codes.specs.Code.{code}
-use Rattle.codes.specs.Written.{write}
 use Rattle.engine.specs.Rules.{Rule}
-use Rattle.grammar.specs.Deep.{deep_at}
-use Rattle.grammar.specs.Readings.{Template, Byte}
+use Rattle.grammar.specs.Readings.{Template}
 use Rattle.lines.specs.Cut.{printing}
 use Rattle.terms.specs.Source.{Source, Same}
 use Rattle.register.specs.declared.answer.Answer.{Answer}
 use Rattle.register.specs.declared.call.Call.{Call}
 use Rattle.register.specs.Calls.{template_at}
 use Rattle.register.specs.Contents.{contents_of}
-use Rattle.register.specs.Register.{Defined, Register, opening, reading_of, code_of, chosen}
-use Rattle.register.specs.Runs.{Run, Typed, stepped, said, leaves, register_after, answers_of, area_after}
+use Rattle.register.specs.Register.{Register, opening, reading_of, code_of, chosen}
+use Rattle.register.specs.Runs.{Run, Typed, register_after, answers_of, area_after}
 
 -- a string of calls has one outcome, the computed one
 pub record OneOutcome : Type 0 where

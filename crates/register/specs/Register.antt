@@ -1,8 +1,7 @@
 -- The register: what the arguments of the calls on a book make of a list.
-use Rattle.std.specs.Prelude.{ℕ, zero, suc, Bool, true, false, cond, List, [], ◌∷◌, ◌++◌, map, length, Some, None, Ok, Err, codes, Option, Result, ◌==◌, nat_le}
+use Rattle.std.specs.Prelude.{ℕ, zero, suc, cond, List, [], ◌∷◌, ◌++◌, map, length, Some, None, Ok, Err, codes, Option, Result, ◌==◌, nat_le}
 use Rattle.codes.specs.Calls.{some_or}
 use Rattle.codes.specs.Code.{code}
-use Rattle.codes.specs.Written.{write}
 use Rattle.codes.specs.declared.error.CodeError.TheVariants.{CodeTooLong}
 use Rattle.displays.specs.Checks.{checked}
 use Rattle.engine.specs.Rules.{Rule}

@@ -1,5 +1,5 @@
 -- Any string of calls on a freshly opened book. Each call has the next `room` bytes of an area for its buffer.
-use Rattle.std.specs.Prelude.{◌≡◌, ℕ, List, [], ◌∷◌, ◌++◌, length, take, drop, Ok, Err, Result}
+use Rattle.std.specs.Prelude.{◌≡◌, ℕ, List, [], ◌∷◌, ◌++◌, length, take, drop, Ok, Err}
 use Rattle.std.specs.Borrow.{Bor}
 use Rattle.std.specs.List.{AllByRecursion as All}
 use Rattle.codes.specs.Calls.{filled, after}
@@ -15,7 +15,7 @@ use Rattle.register.specs.declared.call.Call.TheVariants.{Define, Withdraw, NewF
 use Rattle.register.specs.declared.error.BookError.{BookError}
 use Rattle.register.specs.Calls.{admits, names, looked_up, read_back, too_short, wrote, done, printed, on_accepted}
 use Rattle.register.specs.Contents.{Contents, contents_of}
-use Rattle.register.specs.Register.{Defined, Register, opening, served, chosen, added, removed, replaced}
+use Rattle.register.specs.Register.{Register, opening, served, chosen, added, removed, replaced}
 
 abbrev pub room_of : Call → ℕ
 room_of (Define m t) = 0
