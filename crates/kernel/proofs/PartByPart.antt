@@ -1,5 +1,5 @@
 -- Parts written one after the other.
-use Rattle.std.proofs.Common.{◌≡◌, ℕ, zero, suc, ◌+◌, ◌<◌, ◌≤◌, List, [], ◌∷◌, map, length, get_or, drop, set, Some, None, Option, sym, refl, ap, ◌∙◌, arith}
+use Rattle.std.proofs.Common.{◌≡◌, ℕ, zero, suc, ◌+◌, ◌<◌, ◌≤◌, List, [], ◌∷◌, map, length, drop, set, Option, sym, refl, ap, ◌∙◌, arith}
 use lib.Seq.{sets}
 use Rattle.engine.specs.declared.span.Span.{Span}
 use Rattle.engine.specs.Rules.{span_at}

@@ -1,5 +1,5 @@
 -- What the calls answer, by what the readers and the writers mean.
-use Rattle.std.specs.Prelude.{ℕ, ◌+◌, ◌-◌, Bool, true, false, cond, List, [], ◌∷◌, ◌++◌, map, length, drop, is_some, Some, None, Ok, Err, Option, Result, nat_le}
+use Rattle.std.specs.Prelude.{ℕ, ◌+◌, ◌-◌, Bool, true, false, cond, List, ◌++◌, map, length, drop, is_some, Some, None, Ok, Err, Option, Result, nat_le}
 use Rattle.refusal.specs.declared.error.DeepError.{DeepError}
 use Rattle.refusal.specs.declared.error.FormatterError.{FormatterError}
 use Rattle.refusal.specs.declared.error.MatcherError.{MatcherError}

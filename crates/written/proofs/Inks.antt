@@ -1,5 +1,5 @@
 -- Bytes written one behind the other.
-use Rattle.std.proofs.Common.{◌≡◌, ℕ, ◌+◌, ◌-◌, ◌^◌, min, Bool, true, false, cond, List, [], ◌∷◌, ◌++◌, set, sym, refl, ap, ◌∙◌, append_assoc, arith}
+use Rattle.std.proofs.Common.{◌≡◌, ℕ, ◌+◌, ◌-◌, ◌^◌, min, Bool, true, false, cond, List, [], ◌∷◌, ◌++◌, set, sym, refl, ap, ◌∙◌, append_assoc}
 use Rattle.grammar.specs.declared.defns.ChildIndex.{ChildIndex}
 use Rattle.wire.specs.declared.commands.Command.{Command}
 use Rattle.wire.specs.declared.commands.Command.TheVariants.{Range}

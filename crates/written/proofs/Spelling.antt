@@ -18,7 +18,7 @@ use Rattle.wire.specs.declared.commands.Command.{Command}
 use Rattle.wire.specs.declared.commands.Command.TheVariants.{End, Power, Byte, Step, Child, Range, Capture}
 use Rattle.written.proofs.Runs.{run_runs, past_three}
 use Rattle.wire.proofs.Runs.{stepped, due-steps, past_separator}
-use Rattle.wire.proofs.Wires.{due_end, due_byte, due-step, due_child, due_range, due_capture, due-power}
+use Rattle.wire.proofs.Wires.{due_end, due_byte, due_child, due_range, due_capture, due-power}
 use Rattle.wire.specs.Ahead.{due, is_range, past}
 use Rattle.written.specs.Ahead.{is_step, is_text, over, of_first, bare_run}
 use Rattle.written.specs.Spelled.{bars, texted, indexed, paired, bracket_of, opened, spelled, run_back, separator_of, bare_of, bar_of, three_of, separators_of, body_of, template_of}

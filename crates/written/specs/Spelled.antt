@@ -1,5 +1,5 @@
 -- What is written for the commands of a code, from the first on.
-use Rattle.std.specs.Prelude.{ℕ, zero, suc, Bool, true, false, cond, not, ◌&&◌, ◌||◌, List, [], ◌∷◌, ◌++◌, ◌==◌}
+use Rattle.std.specs.Prelude.{ℕ, zero, suc, Bool, true, false, cond, ◌&&◌, ◌||◌, List, [], ◌∷◌, ◌++◌, ◌==◌}
 use Rattle.codes.specs.Written.{around, parted}
 use Rattle.grammar.specs.Numbers.{numeral, bits}
 use Rattle.grammar.specs.declared.defns.ChildIndex.{ChildIndex}

@@ -1,4 +1,4 @@
-use Rattle.std.proofs.Common.{◌≡◌, ◌+◌, map, drop, set, sym, ap, ◌∙◌, arith, length-set}
+use Rattle.std.proofs.Common.{◌+◌, map, drop, set, sym, ap, ◌∙◌, arith, length-set}
 use lib.Seq.{sets}
 use Rattle.plain.specs.Rules.{listing}
 use Rattle.kernel.specs.Answers.{part_of}
