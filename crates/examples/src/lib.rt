@@ -42,7 +42,7 @@ mod tests {
                     17,
                 ),
             ) => {
-                assert!(rt; left_sep == b"a||" && middle_sep == b"b" && right_sep == b"c");
+                assert!(rt; left_sep == b"a||".as_slice() && middle_sep == b"b".as_slice() && right_sep == b"c".as_slice());
                 Ok(())
             },
             _ => Err(Fail::new("no repeat at place 1")),
@@ -78,7 +78,7 @@ mod tests {
     fn counts_children(rt: HostRuntime) -> Result<(), Fail> {
         let read = parse_matcher(b"(plus _ _)")?;
         assert_eq!(rt; read.children, Some(2));
-        assert!(rt; read.data == b"plus");
+        assert!(rt; read.data == b"plus".as_slice());
         Ok(())
     }
 
