@@ -1,6 +1,6 @@
 -- The codes of templates that are accepted, and no others.
 use Rattle.std.specs.Prelude.{◌≡◌, ℕ, ◌≤◌, Bool, true, cond, not, ◌&&◌, List, [], ◌∷◌, length, Some, None, Option, ◌==◌, nat_le}
-use Rattle.std.specs.List.{AllByRecursion as All}
+use Rattle.std.specs.List.{AllByRecursion}
 use Rattle.grammar.specs.Deep.{within_by, limited}
 use Rattle.grammar.specs.Grammar.{Reads}
 use Rattle.grammar.specs.Limits.{step_allowance, piece_allowance, template_limit}
@@ -54,7 +54,7 @@ pub record Coded (n : ℕ) (c : List ℕ) (r : Template) : Type 0 where
 
 -- a template of bytes that the grammar and the limits give this reading
 pub record AcceptedAs (cs : List ℕ) (r : Template) : Type 0 where
-  pub typed : All Byte cs
+  pub typed : AllByRecursion Byte cs
   pub short : length cs ≤ template_limit
   pub reads : Reads cs r
   pub within : limited r ≡ true

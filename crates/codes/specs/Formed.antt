@@ -1,14 +1,14 @@
 -- Readings whose numbers are in their bounds and whose texts do not adjoin.
 use Rattle.std.specs.Prelude.{List, [], ◌∷◌}
-use Rattle.std.specs.List.{AllByRecursion as All}
+use Rattle.std.specs.List.{AllByRecursion}
 use Rattle.grammar.specs.Readings.{Piece, text, child, capture, repeat, Reading, Separator, Repeat, Template, Byte, Power, Index, Capture, NoText}
 
 -- the numbers of a piece are in their bounds; F says it of what a repeat has behind its steps
 abbrev pub Fits : {R : Type 0} → (R → Type 0) → Piece R → Type 0
-Fits F (text b bs) = Byte b × All Byte bs
-Fits F (child s i l r) = All Index s × Index i × Power l × Power r
+Fits F (text b bs) = Byte b × AllByRecursion Byte bs
+Fits F (child s i l r) = AllByRecursion Index s × Index i × Power l × Power r
 Fits F (capture n) = Capture n
-Fits F (repeat s x) = All Index s × F x
+Fits F (repeat s x) = AllByRecursion Index s × F x
 
 -- no two texts adjoin
 abbrev pub Apart : {R : Type 0} → List (Piece R) → Type 0
@@ -21,7 +21,7 @@ Apart (repeat s x ∷ ps) = Apart ps
 pub record Formed {R : Type 0} (F : R → Type 0) (r : Reading R) : Type 0 where
   pub left : Power r.left
   pub right : Power r.right
-  pub fits : All (Fits F) r.pieces
+  pub fits : AllByRecursion (Fits F) r.pieces
   pub apart : Apart r.pieces
 
 abbrev pub Never : ⊥ → Type 0

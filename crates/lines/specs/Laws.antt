@@ -1,6 +1,6 @@
 -- What is proved of lines and of how they are cut.
 use Rattle.std.specs.Prelude.{◌≡◌, ℕ, suc, ◌<◌, ◌≤◌, List, [], ◌∷◌, ◌++◌, length, Some, None}
-use Rattle.std.specs.List.{AllByRecursion as All}
+use Rattle.std.specs.List.{AllByRecursion}
 use Rattle.terms.specs.Source.{Source, Same}
 use Rattle.lines.specs.Chosen.{Choosing}
 use Rattle.lines.specs.Cut.{Cut, cut, visit_limit, depth_limit, printing}
@@ -34,7 +34,7 @@ Allowed missing = ⊥
 
 -- the events keep within all limits and the room
 pub record Fits (room : ℕ) (es : List Event) : Type 0 where
-  pub allowed : All Allowed es
+  pub allowed : AllByRecursion Allowed es
   pub visits : visits_in es ≤ visit_limit
   pub bytes : length (bytes_in es) ≤ room
 
@@ -79,7 +79,7 @@ pub record AlikeAt (ch ch' : Choosing) (m m' : Source) (t : ℕ) : Type 0 where
   pub prints : (room : ℕ) → printing ch m t room ≡ printing ch' m' t room
 
 pub record Alike : Type 0 where
-  pub visited : (ch ch' : Choosing) (m m' : Source) (t : ℕ) → Same m m' → All (AgreeAt ch ch' m) (line ch m 1 t alone) → AlikeAt ch ch' m m' t
+  pub visited : (ch ch' : Choosing) (m m' : Source) (t : ℕ) → Same m m' → AllByRecursion (AgreeAt ch ch' m) (line ch m 1 t alone) → AlikeAt ch ch' m m' t
   pub everywhere : (ch ch' : Choosing) (m m' : Source) (t : ℕ) → Same m m' → ((name : List ℕ) (count : ℕ) → ch name count ≡ ch' name count) → AlikeAt ch ch' m m' t
 
 pub record Laws : Type 0 where

@@ -1,6 +1,6 @@
 -- What a book keeps: matchers with the codes of their templates, and the fallback's code; and what an engine holds for it.
 use Rattle.std.specs.Prelude.{◌≡◌, ℕ, zero, suc, true, List, [], ◌∷◌, ◌++◌, map, Some, Ok, Result, ◌≢◌}
-use Rattle.std.specs.List.{AllByRecursion as All}
+use Rattle.std.specs.List.{AllByRecursion}
 use Rattle.codes.specs.Acceptable.{decode}
 use Rattle.codes.specs.Written.{write}
 use Rattle.engine.specs.Holdings.{Held, tally}
@@ -55,11 +55,11 @@ Differ x y = x.0.pattern ≡ true → y.0.pattern ≡ true → x.1 ≢ y.1
 
 abbrev pub Apart : List Ticketed → Type 0
 Apart [] = Unit {0}
-Apart (x ∷ xs) = All (Differ x) xs × Apart xs
+Apart (x ∷ xs) = AllByRecursion (Differ x) xs × Apart xs
 
 -- the engine holds exactly one prepared pattern for each pattern: each number holds its text, no two are the same, and no other number holds one
 pub record OneEach (held : Held) (size : ℕ) (xs : List Ticketed) : Type 0 where
-  pub each : All (HeldBy held) xs
+  pub each : AllByRecursion (HeldBy held) xs
   pub apart : Apart xs
   pub all : tally size held ≡ patterns (map (λ x. x.0) xs)
 

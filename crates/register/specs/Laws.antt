@@ -1,6 +1,6 @@
 -- What is proved over whole runs: of the registers that strings of calls make, and of what the books show.
 use Rattle.std.specs.Prelude.{◌≡◌, ℕ, ◌<◌, List, [], ◌++◌, length, Ok}
-use Rattle.std.specs.List.{AllByRecursion as All}
+use Rattle.std.specs.List.{AllByRecursion}
 use Rattle.codes.specs.Acceptable.{AcceptedAs}
 use Rattle.codes.specs.Calls.{written_back}
 use Rattle.engine.specs.Rules.{Rule}
@@ -27,7 +27,7 @@ pub record Reached (g : Register) : Type 0 where
   pub size : ℕ
   pub source : Source
   pub calls : List Call
-  pub typed : All Typed calls
+  pub typed : AllByRecursion Typed calls
   pub area : List ℕ
   pub answers : List Answer
   pub after : List ℕ

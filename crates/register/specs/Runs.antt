@@ -1,7 +1,7 @@
 -- Any string of calls on a freshly opened book. Each call has the next `room` bytes of an area for its buffer.
 use Rattle.std.specs.Prelude.{◌≡◌, ℕ, List, [], ◌∷◌, ◌++◌, length, take, drop, Ok, Err}
 use Rattle.std.specs.Borrow.{Bor}
-use Rattle.std.specs.List.{AllByRecursion as All}
+use Rattle.std.specs.List.{AllByRecursion}
 use Rattle.codes.specs.Calls.{filled, after}
 use Rattle.engine.specs.Rules.{Rule}
 use Rattle.grammar.specs.Matchers.{Matched}
@@ -83,9 +83,9 @@ module _ (rule : Rule) (size : ℕ) (source : Source) where
 
 -- the bytes that a call puts into the register are bytes
 abbrev pub Typed : Call → Type 0
-Typed (Define m t) = All Byte t.now
+Typed (Define m t) = AllByRecursion Byte t.now
 Typed (Withdraw m) = Unit {0}
-Typed (NewFallback t) = All Byte t.now
+Typed (NewFallback t) = AllByRecursion Byte t.now
 Typed (LookUp name n room) = Unit {0}
 Typed (ReadBack m room) = Unit {0}
 Typed (Print t room) = Unit {0}
@@ -95,6 +95,6 @@ module _ (rule : Rule) (size : ℕ) (source : Source) where
   -- register as it stood before it gives
   pub record Carried (calls : List Call) (before : List ℕ) (answers : List Answer) (area : List ℕ) (book : Contents) : Type 0 where
     pub register : Register
-    pub typed : All Typed calls
+    pub typed : AllByRecursion Typed calls
     pub run : Run rule size source opening calls before answers area register
     pub contents : book ≡ contents_of register
