@@ -13,27 +13,26 @@ use written::write_back;
 pub fn answer(heap: Global, line: &str) -> anyhow::Result<String> {
     let mut words = line.split_whitespace();
     let command = words.next().unwrap_or("");
-    match (words.next(), words.next(), words.next()) {
-        (Some(one), None, _) => with_one(heap, command, one),
-        (Some(one), Some(two), None) => with_two(heap, command, one, two),
-        _ => said(heap, "bad command"),
+    let one = words.next();
+    let two = words.next();
+    match (command, one, two) {
+        ("table", Some(terms), None) => or_bad(heap, sources::table(heap, terms)?),
+        ("tape", Some(terms), None) => or_bad(heap, sources::tape(heap, terms)?),
+        ("display", _, None) => said(heap, "bad command"),
+        ("match", _, None) => said(heap, "bad command"),
+        _ => {
+            let first = unhex(heap, one.unwrap_or("?"))?;
+            let second = unhex(heap, two.unwrap_or("-"))?;
+            match (first, second, words.next()) {
+                (Some(a), Some(b), None) => call(heap, command, a.as_slice(), b.as_slice()),
+                _ => said(heap, "bad command"),
+            }
+        }
     }
 }
 
 fn said(heap: Global, text: &str) -> anyhow::Result<String> {
     Ok(String::from_str(heap, text)?)
-}
-
-// A call with one argument: terms, or bytes in hexadecimal.
-fn with_one(heap: Global, command: &str, word: &str) -> anyhow::Result<String> {
-    match command {
-        "table" => or_bad(heap, sources::table(heap, word)?),
-        "tape" => or_bad(heap, sources::tape(heap, word)?),
-        _ => match unhex(heap, word)? {
-            Some(bytes) => reading(heap, command, bytes.as_slice()),
-            None => said(heap, "bad command"),
-        },
-    }
 }
 
 fn or_bad(heap: Global, answer: Option<String>) -> anyhow::Result<String> {
@@ -43,28 +42,15 @@ fn or_bad(heap: Global, answer: Option<String>) -> anyhow::Result<String> {
     }
 }
 
-fn reading(heap: Global, command: &str, bytes: &[u8]) -> anyhow::Result<String> {
+fn call<'a>(heap: Global, command: &str, a: &'a [u8], b: &'a [u8]) -> anyhow::Result<String> {
     match command {
-        "template" => template(heap, bytes),
-        "formatter" => whole(heap, bytes),
-        "matcher" => matcher(heap, bytes),
-        "fallback" => fallback(heap, bytes),
-        "code" => code(heap, bytes),
-        "decode" => decode(heap, bytes),
-        _ => said(heap, "bad command"),
-    }
-}
-
-fn with_two(heap: Global, command: &str, one: &str, two: &str) -> anyhow::Result<String> {
-    match (unhex(heap, one)?, unhex(heap, two)?) {
-        (Some(a), Some(b)) => joint(heap, command, a.as_slice(), b.as_slice()),
-        _ => said(heap, "bad command"),
-    }
-}
-
-fn joint<'a>(heap: Global, command: &str, a: &'a [u8], b: &'a [u8]) -> anyhow::Result<String> {
-    match command {
+        "template" => template(heap, a),
+        "formatter" => whole(heap, a),
+        "matcher" => matcher(heap, a),
         "definition" => definition(heap, a, b),
+        "fallback" => fallback(heap, a),
+        "code" => code(heap, a),
+        "decode" => decode(heap, a),
         "display" => engines::display(heap, a, b),
         "match" => engines::matching(heap, a, b),
         _ => said(heap, "bad command"),

@@ -42,7 +42,11 @@ mod tests {
                     17,
                 ),
             ) => {
-                assert!(rt; left_sep == b"a||".as_slice() && middle_sep == b"b".as_slice() && right_sep == b"c".as_slice());
+                assert!(rt;
+                    left_sep == b"a||".as_slice()
+                        && middle_sep == b"b".as_slice()
+                        && right_sep == b"c".as_slice()
+                );
                 Ok(())
             },
             _ => Err(Fail::new("no repeat at place 1")),
