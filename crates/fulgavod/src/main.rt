@@ -1,7 +1,6 @@
-// Reads a page of display definitions and terms, and reports what each reads as, or where it is at fault.
+// Reads a page of display definitions and reports what each line reads as, or where it is at fault.
 #![tactic(auto)]
 
-mod blocks;
 mod page;
 
 use crate::page::check_page;

@@ -1,7 +1,5 @@
 ghost use Rattle.std.specs.Prelude.{◌+◌, ◌≤◌, length, MatchOption};
 
-use crate::blocks;
-use crate::blocks::Typed;
 use reports::{define as report_define, fallback as report_fallback, heading};
 use std::alloc::Global;
 use std::fmt::Write;
@@ -27,24 +25,12 @@ struct Stored {
     code: Vec<u8>,
 }
 
-// The block of terms that is open at a line.
-#[derive(Clone, Copy, PartialEq, Eq)]
-enum Open {
-    Nothing,
-    Table,
-    Tape,
-}
-
-// How many calls a page had, how many were refused, and the codes of the others; the open block, where it starts, and its
-// terms so far.
+// How many calls a page had, how many were refused, and the codes of the others.
 #[derive(Drop)]
 struct Tally {
     calls: usize,
     refused: usize,
     codes: Vec<Stored>,
-    open: Open,
-    start: usize,
-    terms: Vec<Typed>,
 }
 
 // What stands behind a word at the beginning of a line.
@@ -115,7 +101,9 @@ fn check_line(heap: Global, out: &mut String, line: &[u8]) -> anyhow::Result<Out
         )?)),
         Call::Fallback { template } => Ok(came_of(report_fallback(heap, out, template)?)),
         Call::Unknown => {
-            out.push_str("  refused: no define, fallback, term or tape\n")?;
+            out.push_str(
+                "  refused: neither 'define MATCHER => TEMPLATE' nor 'fallback TEMPLATE'\n",
+            )?;
             Ok(Outcome::Refused)
         }
     }
@@ -134,16 +122,8 @@ fn line_end(page: &[u8], at: usize) -> usize
     page.len()
 }
 
-// Counts a call.
-fn count(tally: &mut Tally, accepted: bool) {
-    tally.calls = tally.calls.saturating_add(1);
-    if !accepted {
-        tally.refused = tally.refused.saturating_add(1);
-    }
-}
-
-// Reports a definition or a fallback with its line's number, and counts it.
-fn one_call(
+// Reports a line with its number, and counts its call.
+fn one_line(
     heap: Global,
     out: &mut String,
     tally: &mut Tally,
@@ -153,107 +133,13 @@ fn one_call(
     let mut part = String::new(heap);
     match check_line(heap, &mut part, line)? {
         Outcome::NoCall => return Ok(()),
-        Outcome::Refused => count(tally, false),
-        Outcome::Read(code) => {
-            count(tally, true);
-            tally.codes.push(Stored { line: number, code })?;
-        }
+        Outcome::Refused => tally.refused = tally.refused.saturating_add(1),
+        Outcome::Read(code) => tally.codes.push(Stored { line: number, code })?,
     }
+    tally.calls = tally.calls.saturating_add(1);
     heading(out, number, line)?;
     out.push_str(part.as_str())?;
     Ok(())
-}
-
-// Reports the block that is open, if one is, and counts it.
-fn close_block(heap: Global, out: &mut String, tally: &mut Tally) -> anyhow::Result<()> {
-    let accepted = match tally.open {
-        Open::Nothing => return Ok(()),
-        Open::Table => blocks::table(heap, out, tally.start, tally.terms.as_slice())?,
-        Open::Tape => blocks::tape(heap, out, tally.start, tally.terms.as_slice())?,
-    };
-    count(tally, accepted);
-    tally.open = Open::Nothing;
-    tally.terms.truncate(0);
-    Ok(())
-}
-
-// Refuses a line of a block, and passes it over.
-fn refuse_term(
-    out: &mut String,
-    tally: &mut Tally,
-    number: usize,
-    line: &[u8],
-    form: &str,
-) -> anyhow::Result<()> {
-    count(tally, false);
-    heading(out, number, line)?;
-    writeln!(out, "  refused: not '{form}'")?;
-    Ok(())
-}
-
-// A line of a table, `rest` being what stands behind `term`.
-fn table_line(
-    heap: Global,
-    out: &mut String,
-    tally: &mut Tally,
-    number: usize,
-    line: &[u8],
-    rest: &[u8],
-) -> anyhow::Result<()> {
-    if tally.open == Open::Nothing {
-        tally.open = Open::Table;
-        tally.start = number;
-    }
-    match blocks::typed_term(heap, number, line, rest)? {
-        Some(term) => {
-            tally.terms.push(term)?;
-            Ok(())
-        }
-        None => refuse_term(out, tally, number, line, "term NAME CHILD CHILD .."),
-    }
-}
-
-// A line of a tape: `end`, or a name and a child count.
-fn tape_line(
-    heap: Global,
-    out: &mut String,
-    tally: &mut Tally,
-    number: usize,
-    line: &[u8],
-) -> anyhow::Result<()> {
-    if line == b"end".as_slice() {
-        return close_block(heap, out, tally);
-    }
-    match blocks::typed_term(heap, number, line, line)? {
-        Some(term) if term.count() == 1 => {
-            tally.terms.push(term)?;
-            Ok(())
-        }
-        _ => refuse_term(out, tally, number, line, "NAME COUNT' up to 'end"),
-    }
-}
-
-// Reports a line, or adds it to the block that it belongs to.
-fn one_line(
-    heap: Global,
-    out: &mut String,
-    tally: &mut Tally,
-    number: usize,
-    line: &[u8],
-) -> anyhow::Result<()> {
-    if tally.open == Open::Tape {
-        return tape_line(heap, out, tally, number, line);
-    }
-    if let Some(rest) = behind(line, b"term ") {
-        return table_line(heap, out, tally, number, line, rest);
-    }
-    close_block(heap, out, tally)?;
-    if line == b"tape".as_slice() {
-        tally.open = Open::Tape;
-        tally.start = number;
-        return Ok(());
-    }
-    one_call(heap, out, tally, number, line)
 }
 
 // The report on a whole page.
@@ -263,9 +149,6 @@ pub fn check_page(heap: Global, page: &[u8]) -> anyhow::Result<String> {
         calls: 0,
         refused: 0,
         codes: Vec::new(heap),
-        open: Open::Nothing,
-        start: 0,
-        terms: Vec::new(heap),
     };
     let mut at = 0;
     let mut number = 0usize;
@@ -275,7 +158,6 @@ pub fn check_page(heap: Global, page: &[u8]) -> anyhow::Result<String> {
         one_line(heap, &mut out, &mut tally, number, &page[at..end])?;
         at = end + 1;
     }
-    close_block(heap, &mut out, &mut tally)?;
     push_shared(&mut out, tally.codes.as_slice())?;
     close(&mut out, &tally)?;
     Ok(out)

@@ -10,7 +10,7 @@ use plain::PlainEngine;
 use refusal::{DeepError, EitherError, FormatterError, InSeparator, ParseError, Refusal};
 use std::alloc::Global;
 use std::fmt::Write;
-use templates::{FormatterConst, output_at, parse_template};
+use templates::{FormatterConst, output_at, parse_definition, parse_template};
 use written::write_back;
 
 // The number of a line, and the line as typed.
@@ -21,9 +21,27 @@ pub fn heading(out: &mut String, number: usize, line: &[u8]) -> anyhow::Result<(
     Ok(())
 }
 
-// Reports a definition, and answers its template's code unless it is refused. It is checked with a plain engine that holds
-// nothing; what is prepared is given back.
+// Reports a definition, and answers its template's code unless it is refused.
 pub fn define<'a>(
+    heap: Global,
+    out: &mut String,
+    matcher: &'a [u8],
+    template: &'a [u8],
+) -> anyhow::Result<Option<Vec<u8>>> {
+    match parse_definition(matcher, template) {
+        Err(fault) => {
+            push_either(out, matcher, template, fault)?;
+            Ok(None)
+        }
+        Ok(_) => {
+            push_matcher(out, matcher)?;
+            whole(heap, out, template)
+        }
+    }
+}
+
+// The same with an engine: the definition is checked with a plain one that holds nothing, and what is prepared is given back.
+pub fn define_with_engine<'a>(
     heap: Global,
     out: &mut String,
     matcher: &'a [u8],

@@ -1,5 +1,5 @@
+use crate::trees::{push_bad_term, push_trees};
 use refusal::ParseError;
-use reports::{push_bad_term, push_trees};
 use std::alloc::{AllocError, Global};
 use std::fmt::Write;
 use std::str;
