@@ -4,7 +4,7 @@
  * memcpy and memset; it may be called from several threads at once. A function with a buffer writes to its start only, and on any refusal not at all.
  * Bytes are any bytes, not only UTF-8. A pointer may not be NULL, even with length 0.
  *
- * Link: libkernel.a and librattle_c.a (docs/EMBEDDING.md).
+ * Link: libkernel.a, which `rt lib` in crates/kernel leaves in crates/kernel/out.
  */
 #ifndef FULGAVOD_H
 #define FULGAVOD_H
