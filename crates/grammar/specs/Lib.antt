@@ -2,6 +2,7 @@ pub mod Results
 pub mod Limits
 pub mod Marks
 pub mod Numbers
+pub mod Indices
 pub mod Paths
 pub mod Powers
 pub mod Shapes

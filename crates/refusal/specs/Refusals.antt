@@ -100,6 +100,10 @@ abbrev pub deep_name : DeepError → List ℕ
 deep_name (deep.TheVariants.Formatter e) = formatter_name e
 deep_name (deep.TheVariants.Separator s) = formatter_name s.fault.kind
 
+-- so many bytes from a place on, and what is wrong with them
+abbrev pub part_at : {K : Type 0} → K → ℕ → ℕ → ParseError K
+part_at k place n = record { place = place; length = n; kind = k }
+
 -- the template's own fault, as a fault of the template with its separators
 abbrev pub of_template : ParseError FormatterError → ParseError DeepError
 of_template e = record { place = e.place; length = e.length; kind = deep.TheVariants.Formatter e.kind }

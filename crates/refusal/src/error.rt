@@ -1,7 +1,9 @@
-ghost use Rattle.std.specs.Prelude.{List, ◌≡◌, ℕ};
-ghost use Rattle.refusal.specs.Refusals.{formatter_number, formatter_name, matcher_number, matcher_name, either_number, either_layer, either_name, deep_number, deep_name, closing_bytes, parting_byte, side_name, layer_name, carried, of_template, joint_formatter, joint_matcher};
+ghost use Rattle.std.specs.Prelude.{List, ◌≡◌, ℕ, Some};
+ghost use Rattle.refusal.specs.Refusals.{formatter_number, formatter_name, matcher_number, matcher_name, either_number, either_layer, either_name, deep_number, deep_name, closing_bytes, parting_byte, side_name, layer_name, carried, of_template, joint_formatter, joint_matcher, part_at};
 ghost use Rattle.refusal.specs.declared.error.Layer.{Layer};
 ghost use Rattle.refusal.specs.declared.error.Layer.TheVariants.{Template, Matcher};
+
+use std::fmt;
 
 // The part of the product that refuses.
 #[derive(Clone, Copy, Debug, PartialEq, Eq)]
@@ -13,6 +15,7 @@ pub enum Layer {
     Print,
 }
 
+// The texts of layers, marks and sides are promised byte for byte; of what a derived `Debug` writes nothing is known.
 impl Layer {
     pub fn name(self) -> &'static str
         ensures { result.now ≡ layer_name self }
@@ -27,6 +30,14 @@ impl Layer {
     }
 }
 
+impl fmt::Display for Layer {
+    ghost output = { λ x. Some (layer_name x) };
+
+    fn fmt<W: fmt::Write>(&self, f: &mut fmt::Formatter<W>) -> fmt::Result {
+        f.write_str(self.name())
+    }
+}
+
 // A part of a text that is at fault, by place and length in bytes, and what is wrong with it.
 #[derive(Clone, Copy, Debug, PartialEq, Eq)]
 pub struct ParseError<K> {
@@ -35,7 +46,49 @@ pub struct ParseError<K> {
     pub kind: K,
 }
 
-// A kind of refusal: its number, its name and the layer that it belongs to.
+impl<K> ParseError<K> {
+    // What is wrong with so many bytes from a place on.
+    pub fn new(kind: K, place: usize, length: usize) -> ParseError<K>
+        ensures { result ≡ part_at kind place length }
+    {
+        ParseError {
+            place,
+            length,
+            kind,
+        }
+    }
+
+    // The same part with what is wrong told in another way.
+    pub fn with<L>(&self, kind: L) -> ParseError<L>
+        ensures { result ≡ part_at kind self.now.place self.now.length }
+    {
+        ParseError::new(kind, self.place, self.length)
+    }
+}
+
+// What a refusal says of itself: its number, its name and the layer that it belongs to.
+#[derive(Clone, Copy, Debug, PartialEq, Eq)]
+pub struct Told {
+    pub number: u8,
+    pub name: &'static str,
+    pub layer: Layer,
+}
+
+impl Told {
+    pub fn new(number: u8, name: &'static str, layer: Layer) -> Told
+        ensures number { result.number ≡ number }
+        ensures name { result.name.now ≡ name.now }
+        ensures layer { result.layer ≡ layer }
+    {
+        Told {
+            number,
+            name,
+            layer,
+        }
+    }
+}
+
+// A kind of refusal.
 pub trait Refusal {
     ghost numbered: { Self → ℕ };
 
@@ -43,14 +96,41 @@ pub trait Refusal {
 
     ghost within: { Self → Layer };
 
+    fn told(&self) -> Told
+        ensures number { result.number ≡ numbered self.now }
+        ensures name { result.name.now ≡ named self.now }
+        ensures layer { result.layer ≡ within self.now };
+
     fn number(&self) -> u8
-        ensures { result ≡ numbered self.now };
+        ensures { result ≡ numbered self.now }
+    {
+        self.told().number
+    }
 
     fn name(&self) -> &'static str
-        ensures { result.now ≡ named self.now };
+        ensures { result.now ≡ named self.now }
+    {
+        self.told().name
+    }
 
     fn layer(&self) -> Layer
-        ensures { result ≡ within self.now };
+        ensures { result ≡ within self.now }
+    {
+        self.told().layer
+    }
+}
+
+// What is wrong with a part of a text is told by its kind.
+impl<K: Refusal> Refusal for ParseError<K> {
+    ghost numbered = { λ e. K.numbered e.kind };
+
+    ghost named = { λ e. K.named e.kind };
+
+    ghost within = { λ e. K.within e.kind };
+
+    fn told(&self) -> Told {
+        self.kind.told()
+    }
 }
 
 // A mark that closes a prefix, a suffix or a control.
@@ -75,6 +155,14 @@ impl ClosingMark {
     }
 }
 
+impl fmt::Display for ClosingMark {
+    ghost output = { λ x. Some (closing_bytes x) };
+
+    fn fmt<W: fmt::Write>(&self, f: &mut fmt::Formatter<W>) -> fmt::Result {
+        f.write_str(self.text())
+    }
+}
+
 // A mark that parts the numbers of a pair, the powers of a repeat or its separators.
 #[derive(Clone, Copy, Debug, PartialEq, Eq)]
 pub enum PartingMark {
@@ -90,6 +178,14 @@ impl PartingMark {
             PartingMark::Comma => ",",
             PartingMark::Bar => "|",
         }
+    }
+}
+
+impl fmt::Display for PartingMark {
+    ghost output = { λ x. Some (parting_byte x) };
+
+    fn fmt<W: fmt::Write>(&self, f: &mut fmt::Formatter<W>) -> fmt::Result {
+        f.write_str(self.text())
     }
 }
 
@@ -117,42 +213,21 @@ impl Refusal for FormatterError {
 
     ghost within = { λ _. Template };
 
-    fn number(&self) -> u8 {
+    fn told(&self) -> Told {
         match *self {
-            FormatterError::MissingHash => 1,
-            FormatterError::MissingRange => 2,
-            FormatterError::MissingControl(_) => 3,
-            FormatterError::TooManyControl(_) => 4,
-            FormatterError::TooManyChildren => 5,
-            FormatterError::UnexpectedPair => 6,
-            FormatterError::IncorrectControl => 7,
-            FormatterError::InvalidNumber => 8,
-            FormatterError::CaptureOverflow => 9,
-            FormatterError::NumberOutOfRange => 16,
-            FormatterError::TooManyPieces => 17,
-            FormatterError::TemplateTooLong => 18,
+            FormatterError::MissingHash => Told::new(1, "MissingHash", Layer::Template),
+            FormatterError::MissingRange => Told::new(2, "MissingRange", Layer::Template),
+            FormatterError::MissingControl(_) => Told::new(3, "MissingControl", Layer::Template),
+            FormatterError::TooManyControl(_) => Told::new(4, "TooManyControl", Layer::Template),
+            FormatterError::TooManyChildren => Told::new(5, "TooManyChildren", Layer::Template),
+            FormatterError::UnexpectedPair => Told::new(6, "UnexpectedPair", Layer::Template),
+            FormatterError::IncorrectControl => Told::new(7, "IncorrectControl", Layer::Template),
+            FormatterError::InvalidNumber => Told::new(8, "InvalidNumber", Layer::Template),
+            FormatterError::CaptureOverflow => Told::new(9, "CaptureOverflow", Layer::Template),
+            FormatterError::NumberOutOfRange => Told::new(16, "NumberOutOfRange", Layer::Template),
+            FormatterError::TooManyPieces => Told::new(17, "TooManyPieces", Layer::Template),
+            FormatterError::TemplateTooLong => Told::new(18, "TemplateTooLong", Layer::Template),
         }
-    }
-
-    fn name(&self) -> &'static str {
-        match *self {
-            FormatterError::MissingHash => "MissingHash",
-            FormatterError::MissingRange => "MissingRange",
-            FormatterError::MissingControl(_) => "MissingControl",
-            FormatterError::TooManyControl(_) => "TooManyControl",
-            FormatterError::TooManyChildren => "TooManyChildren",
-            FormatterError::UnexpectedPair => "UnexpectedPair",
-            FormatterError::IncorrectControl => "IncorrectControl",
-            FormatterError::InvalidNumber => "InvalidNumber",
-            FormatterError::CaptureOverflow => "CaptureOverflow",
-            FormatterError::NumberOutOfRange => "NumberOutOfRange",
-            FormatterError::TooManyPieces => "TooManyPieces",
-            FormatterError::TemplateTooLong => "TemplateTooLong",
-        }
-    }
-
-    fn layer(&self) -> Layer {
-        Layer::Template
     }
 }
 
@@ -170,22 +245,15 @@ impl Refusal for MatcherError {
 
     ghost within = { λ _. Matcher };
 
-    fn number(&self) -> u8 {
+    fn told(&self) -> Told {
         match *self {
-            MatcherError::InvalidChildrenSpec => 10,
-            MatcherError::MatcherTooLong => 19,
+            MatcherError::InvalidChildrenSpec => Told::new(
+                10,
+                "InvalidChildrenSpec",
+                Layer::Matcher,
+            ),
+            MatcherError::MatcherTooLong => Told::new(19, "MatcherTooLong", Layer::Matcher),
         }
-    }
-
-    fn name(&self) -> &'static str {
-        match *self {
-            MatcherError::InvalidChildrenSpec => "InvalidChildrenSpec",
-            MatcherError::MatcherTooLong => "MatcherTooLong",
-        }
-    }
-
-    fn layer(&self) -> Layer {
-        Layer::Matcher
     }
 }
 
@@ -204,27 +272,11 @@ impl Refusal for EitherError {
 
     ghost within = { either_layer };
 
-    fn number(&self) -> u8 {
+    fn told(&self) -> Told {
         match *self {
-            EitherError::Formatter(e) => e.number(),
-            EitherError::Matcher(e) => e.number(),
-            EitherError::InvalidCapture => 11,
-        }
-    }
-
-    fn name(&self) -> &'static str {
-        match *self {
-            EitherError::Formatter(e) => e.name(),
-            EitherError::Matcher(e) => e.name(),
-            EitherError::InvalidCapture => "InvalidCapture",
-        }
-    }
-
-    fn layer(&self) -> Layer {
-        match *self {
-            EitherError::Formatter(_) => Layer::Template,
-            EitherError::Matcher(_) => Layer::Matcher,
-            EitherError::InvalidCapture => Layer::Book,
+            EitherError::Formatter(e) => e.told(),
+            EitherError::Matcher(e) => e.told(),
+            EitherError::InvalidCapture => Told::new(11, "InvalidCapture", Layer::Book),
         }
     }
 }
@@ -233,11 +285,7 @@ impl From<ParseError<FormatterError>> for ParseError<EitherError> {
     ghost from_gives = { λ e r. r ≡ joint_formatter e };
 
     fn from(e: ParseError<FormatterError>) -> ParseError<EitherError> {
-        ParseError {
-            place: e.place,
-            length: e.length,
-            kind: EitherError::Formatter(e.kind),
-        }
+        e.with(EitherError::Formatter(e.kind))
     }
 }
 
@@ -245,11 +293,7 @@ impl From<ParseError<MatcherError>> for ParseError<EitherError> {
     ghost from_gives = { λ e r. r ≡ joint_matcher e };
 
     fn from(e: ParseError<MatcherError>) -> ParseError<EitherError> {
-        ParseError {
-            place: e.place,
-            length: e.length,
-            kind: EitherError::Matcher(e.kind),
-        }
+        e.with(EitherError::Matcher(e.kind))
     }
 }
 
@@ -270,6 +314,14 @@ impl Side {
             Side::Middle => "middle",
             Side::Right => "right",
         }
+    }
+}
+
+impl fmt::Display for Side {
+    ghost output = { λ x. Some (side_name x) };
+
+    fn fmt<W: fmt::Write>(&self, f: &mut fmt::Formatter<W>) -> fmt::Result {
+        f.write_str(self.name())
     }
 }
 
@@ -295,22 +347,11 @@ impl Refusal for DeepError {
 
     ghost within = { λ _. Template };
 
-    fn number(&self) -> u8 {
+    fn told(&self) -> Told {
         match *self {
-            DeepError::Formatter(e) => e.number(),
-            DeepError::Separator(s) => s.fault.kind.number(),
+            DeepError::Formatter(e) => e.told(),
+            DeepError::Separator(s) => s.fault.told(),
         }
-    }
-
-    fn name(&self) -> &'static str {
-        match *self {
-            DeepError::Formatter(e) => e.name(),
-            DeepError::Separator(s) => s.fault.kind.name(),
-        }
-    }
-
-    fn layer(&self) -> Layer {
-        Layer::Template
     }
 }
 
@@ -318,11 +359,7 @@ impl From<ParseError<FormatterError>> for ParseError<DeepError> {
     ghost from_gives = { λ e r. r ≡ of_template e };
 
     fn from(e: ParseError<FormatterError>) -> ParseError<DeepError> {
-        ParseError {
-            place: e.place,
-            length: e.length,
-            kind: DeepError::Formatter(e.kind),
-        }
+        e.with(DeepError::Formatter(e.kind))
     }
 }
 

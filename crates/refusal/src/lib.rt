@@ -5,5 +5,5 @@ mod error;
 
 pub use error::{
     ClosingMark, DeepError, EitherError, FormatterError, InSeparator, Layer, MatcherError,
-    ParseError, PartingMark, Refusal, Side,
+    ParseError, PartingMark, Refusal, Side, Told,
 };
