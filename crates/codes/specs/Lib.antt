@@ -7,3 +7,4 @@ pub mod Forward
 pub mod Laws
 pub mod Faults
 pub mod Calls
+pub mod Opcodes

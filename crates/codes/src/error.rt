@@ -2,7 +2,7 @@ ghost use Rattle.std.specs.Prelude.{◌≡◌};
 ghost use Rattle.codes.specs.Faults.{code_number, code_name, encode_number, encode_name, encode_layer, of_formatter};
 ghost use Rattle.refusal.specs.declared.error.Layer.TheVariants.{Book};
 
-use refusal::{DeepError, Layer, ParseError, Refusal};
+use refusal::{DeepError, Layer, ParseError, Refusal, Told};
 
 // Why a code is not made, not read, or not written. No part of a text is at fault, so there is no place.
 #[derive(Clone, Copy, Debug, PartialEq, Eq)]
@@ -19,24 +19,12 @@ impl Refusal for CodeError {
 
     ghost within = { λ _. Book };
 
-    fn number(&self) -> u8 {
+    fn told(&self) -> Told {
         match *self {
-            CodeError::CodeTooLong => 20,
-            CodeError::NoCode => 21,
-            CodeError::BufferTooShort => 22,
+            CodeError::CodeTooLong => Told::new(20, "CodeTooLong", Layer::Book),
+            CodeError::NoCode => Told::new(21, "NoCode", Layer::Book),
+            CodeError::BufferTooShort => Told::new(22, "BufferTooShort", Layer::Book),
         }
-    }
-
-    fn name(&self) -> &'static str {
-        match *self {
-            CodeError::CodeTooLong => "CodeTooLong",
-            CodeError::NoCode => "NoCode",
-            CodeError::BufferTooShort => "BufferTooShort",
-        }
-    }
-
-    fn layer(&self) -> Layer {
-        Layer::Book
     }
 }
 
@@ -54,24 +42,10 @@ impl Refusal for EncodeError {
 
     ghost within = { encode_layer };
 
-    fn number(&self) -> u8 {
+    fn told(&self) -> Told {
         match *self {
-            EncodeError::Formatter(e) => e.kind.number(),
-            EncodeError::Code(e) => e.number(),
-        }
-    }
-
-    fn name(&self) -> &'static str {
-        match *self {
-            EncodeError::Formatter(e) => e.kind.name(),
-            EncodeError::Code(e) => e.name(),
-        }
-    }
-
-    fn layer(&self) -> Layer {
-        match *self {
-            EncodeError::Formatter(_) => Layer::Template,
-            EncodeError::Code(_) => Layer::Book,
+            EncodeError::Formatter(e) => e.told(),
+            EncodeError::Code(e) => e.told(),
         }
     }
 }

@@ -1,20 +1,30 @@
 -- What is written into a buffer.
-use Rattle.std.specs.Prelude.{◌≡◌, ℕ, ◌+◌, cond, List, [], ◌∷◌, ◌++◌, length, drop, Some, None, Option, nat_le, slice_set}
+use Rattle.std.specs.Prelude.{◌≡◌, ℕ, cond, List, [], ◌++◌, length, take, drop, Result, is_ok, nat_le}
+use Rattle.pen.specs.declared.writing.Full.{Full}
+use Rattle.pen.specs.declared.writing.Pen.{Pen}
 
--- the buffer with the bytes from a place on
-abbrev pub writes : List ℕ → ℕ → List ℕ → List ℕ
-writes l i [] = l
-writes l i (b ∷ bs) = writes (slice_set l i b) (i + 1) bs
+-- a buffer in its two parts: what is written, and the bytes behind it
+pub record Page : Type 0 where
+  pub written : List ℕ
+  pub rest : List ℕ
 
--- the place behind the bytes, if they have room in so many
-abbrev pub room : ℕ → ℕ → List ℕ → Option ℕ
-room size at bs = cond (nat_le (at + length bs) size) (Some (at + length bs)) None
+-- a buffer in which nothing is written
+abbrev pub blank : List ℕ → Page
+blank l = record { written = []; rest = l }
 
--- the bytes were written from a place on, if they had room; else some of them may have been
-pub record Wrote (before after : List ℕ) (at : ℕ) (bs : List ℕ) (r : Option ℕ) : Type 0 where
-  pub answer : r ≡ room (length before) at bs
-  pub long : length after ≡ length before
-  pub bytes : (n : ℕ) → r ≡ Some n → after ≡ writes before at bs
+-- the page with more bytes on it, as many as it has room for
+abbrev pub writes : List ℕ → Page → Page
+writes bs p = record { written = p.written ++ take (length p.rest) bs; rest = drop (length bs) p.rest }
+
+-- the page that a pen writes on
+abbrev pub page : Pen → Page
+page p = record { written = take p.at p.out.now; rest = drop p.at p.out.now }
+
+-- these bytes were written, as many as had room, and nothing else was changed; a refusal says that not all had room
+pub record Wrote (old new : Pen) (bs : List ℕ) (r : Result (Unit {0}) Full) : Type 0 where
+  pub same : new.out.ghost_name ≡ old.out.ghost_name
+  pub bytes : page new ≡ writes bs (page old)
+  pub answer : is_ok r ≡ nat_le (length bs) (length (page old).rest)
 
 -- all of the bytes from the start on, or the buffer as it was
 abbrev pub delivered : List ℕ → List ℕ → List ℕ

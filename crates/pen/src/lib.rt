@@ -1,29 +1,8 @@
 // Writing bytes into a caller's buffer, one after the other or all at once.
 #![tactic(auto)]
 
-ghost use Rattle.std.specs.Prelude.{◌≡◌, [], ◌∷◌, ◌++◌, length, if◌then◌else◌, Some, None, nat_le};
-ghost use Rattle.pen.specs.Pen.{Wrote, delivered};
+mod delivery;
+mod writing;
 
-// One byte at `at`, and the place behind it; none where the buffer ends.
-pub fn put(out: &mut [u8], at: usize, b: u8) -> Option<usize>
-    ensures { Wrote out.old out.new at (b ∷ []) result }
-{
-    if at >= out.len() {
-        return None;
-    }
-    out[at] = b;
-    Some(at + 1)
-}
-
-// All the bytes from the buffer's start on, if there is room for them, and how many they are; else nothing is written.
-pub fn deliver(bytes: &[u8], out: &mut [u8]) -> Option<usize>
-    ensures answer { result ≡ (if nat_le (length bytes.now) (length out.old) then Some (length bytes.now) else None) }
-    ensures buffer { out.new ≡ delivered bytes.now out.old }
-{
-    if bytes.len() > out.len() {
-        return None;
-    }
-    let size = bytes.len();
-    out[0..size].copy_from_slice(bytes);
-    Some(size)
-}
+pub use delivery::deliver;
+pub use writing::{Full, Pen};
