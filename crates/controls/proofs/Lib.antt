@@ -1,5 +1,4 @@
-pub mod Sequence
+pub mod Cuts
 pub mod MarkSteps
-pub mod DigitSteps
 pub mod PathSteps
-pub mod ControlSteps
+pub mod Strides

@@ -1,2 +1,4 @@
 pub mod Views
 pub mod Steps
+pub mod Halves
+pub mod Parts

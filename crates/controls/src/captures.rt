@@ -1,26 +1,21 @@
-ghost use Rattle.std.specs.Prelude.{◌≡◌, ◌+◌, ◌^◌, ◌<◌, length};
+ghost use Rattle.std.specs.Prelude.{◌≡◌};
+ghost use Rattle.controls.specs.Parts.{reading};
 ghost use Rattle.grammar.specs.Controls.{capture_at};
 ghost use Rattle.controls.specs.Views.{seen_shape};
 
 use crate::defns_const::SubFormatterConst;
 use crate::numbers::parse_i32;
+use crate::part::Part;
 use refusal::{FormatterError, ParseError};
 
 // A capture, from what stands between `${` and `}$`.
 pub(crate) fn parse_capture<'a>(
-    text: &'a [u8],
-    place: usize,
+    part: Part<'a>,
 ) -> Result<SubFormatterConst<'a>, ParseError<FormatterError>>
-    requires { place + length text.now < 2 ^ 64 }
-    ensures { seen_shape result ≡ capture_at place text.now }
+    ensures { seen_shape result ≡ reading capture_at part.entry }
 {
-    let number = parse_i32(text, place)?;
-    if number < 0 {
-        return Err(ParseError {
-            place,
-            length: text.len(),
-            kind: FormatterError::CaptureOverflow,
-        });
+    match u32::try_from(parse_i32(part)?) {
+        Ok(number) => Ok(SubFormatterConst::Capture(number)),
+        Err(_) => Err(part.fault(FormatterError::CaptureOverflow)),
     }
-    Ok(SubFormatterConst::Capture(number as u32))
 }

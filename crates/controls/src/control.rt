@@ -1,73 +1,32 @@
-ghost use Rattle.std.specs.Prelude.{◌≡◌, ◌+◌, ◌^◌, ◌<◌, ◌≤◌, length, drop, IfOk};
-ghost use Rattle.grammar.specs.Controls.{child_at, repeat_at, capture_at, closed_by, control_at};
-ghost use Rattle.refusal.specs.declared.error.ClosingMark.TheVariants.{Square, Round, Curly};
-ghost use Rattle.controls.specs.Views.{seen_control};
+ghost use Rattle.std.specs.Prelude.{◌≡◌, ℕ, ◌+◌, ◌≤◌, List, length, drop, IfOk, Result};
+ghost use Rattle.grammar.specs.Controls.{closed_by, control_at};
+ghost use Rattle.controls.specs.Parts.{reading};
+ghost use Rattle.controls.specs.Views.{seen_control, Reads};
 
 use crate::captures::parse_capture;
 use crate::children::parse_single;
 use crate::defns_const::SubFormatterConst;
-use crate::marks::first_mark;
+use crate::part::Part;
 use crate::repeats::parse_repeat;
 use refusal::{ClosingMark, FormatterError, ParseError};
 
-// A child up to its `]$`.
-fn close_single<'a>(
-    text: &'a [u8],
-    place: usize,
+// A control up to the mark that closes it: what `parse` reads of what stands before the mark, and how many bytes the
+// control has from its bracket on.
+fn close<'a, F: Fn(Part<'a>) -> Result<SubFormatterConst<'a>, ParseError<FormatterError>>>(
+    part: Part<'a>,
+    byte: u8,
+    mark: ClosingMark,
+    parse: F,
 ) -> Result<(SubFormatterConst<'a>, usize), ParseError<FormatterError>>
-    requires { place + length text.now < 2 ^ 64 }
-    ensures within { IfOk result (λ p. p.1 ≤ length text.now + 1) }
-    ensures same { seen_control result ≡ closed_by 93 Square child_at place text.now }
+    requires { F.IsAlwaysCallable parse }
+    ensures within { IfOk result (λ p. p.1 ≤ length part.entry.text.now + 1) }
+    ensures same { (f : _) → Reads (F.post parse) f → seen_control result ≡ reading (closed_by byte mark f) part.entry }
 {
-    let Some(at) = first_mark(text, b']', b'$') else {
-        return Err(ParseError {
-            place,
-            length: text.len(),
-            kind: FormatterError::MissingControl(ClosingMark::Square),
-        });
+    let Some((inside, _)) = part.cut(byte, b'$') else {
+        return Err(part.fault(FormatterError::MissingControl(mark)));
     };
-    let piece = parse_single(&text[0..at], place)?;
-    Ok((piece, at + 3))
-}
-
-// A repeat up to its `)$`.
-fn close_repeat<'a>(
-    text: &'a [u8],
-    place: usize,
-) -> Result<(SubFormatterConst<'a>, usize), ParseError<FormatterError>>
-    requires { place + length text.now < 2 ^ 64 }
-    ensures within { IfOk result (λ p. p.1 ≤ length text.now + 1) }
-    ensures same { seen_control result ≡ closed_by 41 Round repeat_at place text.now }
-{
-    let Some(at) = first_mark(text, b')', b'$') else {
-        return Err(ParseError {
-            place,
-            length: text.len(),
-            kind: FormatterError::MissingControl(ClosingMark::Round),
-        });
-    };
-    let piece = parse_repeat(&text[0..at], place)?;
-    Ok((piece, at + 3))
-}
-
-// A capture up to its `}$`.
-fn close_capture<'a>(
-    text: &'a [u8],
-    place: usize,
-) -> Result<(SubFormatterConst<'a>, usize), ParseError<FormatterError>>
-    requires { place + length text.now < 2 ^ 64 }
-    ensures within { IfOk result (λ p. p.1 ≤ length text.now + 1) }
-    ensures same { seen_control result ≡ closed_by 125 Curly capture_at place text.now }
-{
-    let Some(at) = first_mark(text, b'}', b'$') else {
-        return Err(ParseError {
-            place,
-            length: text.len(),
-            kind: FormatterError::MissingControl(ClosingMark::Curly),
-        });
-    };
-    let piece = parse_capture(&text[0..at], place)?;
-    Ok((piece, at + 3))
+    let piece = parse(inside)?;
+    Ok((piece, inside.text.len() + 3))
 }
 
 // The control that stands in the template from its bracket, at `from`, on: the piece, and how many bytes it has with its marks.
@@ -78,22 +37,12 @@ pub fn parse_control<'a>(
     ensures within { IfOk result (λ p. from + p.1 ≤ length template.now) }
     ensures same { seen_control result ≡ control_at from (drop from template.now) }
 {
-    if from >= template.len() {
-        return Err(ParseError {
-            place: from,
-            length: 0,
-            kind: FormatterError::IncorrectControl,
-        });
-    }
-    let rest = &template[from + 1..];
-    match template[from] {
-        b'[' => close_single(rest, from + 1),
-        b'(' => close_repeat(rest, from + 1),
-        b'{' => close_capture(rest, from + 1),
-        _ => Err(ParseError {
-            place: from,
-            length: template.len() - from,
-            kind: FormatterError::IncorrectControl,
-        }),
+    let text = template.get(from..).unwrap_or_default();
+    let whole = Part { text, place: from };
+    match text {
+        [b'[', ..] => close(whole.behind(1), b']', ClosingMark::Square, parse_single),
+        [b'(', ..] => close(whole.behind(1), b')', ClosingMark::Round, parse_repeat),
+        [b'{', ..] => close(whole.behind(1), b'}', ClosingMark::Curly, parse_capture),
+        _ => Err(whole.fault(FormatterError::IncorrectControl)),
     }
 }

@@ -1,64 +1,40 @@
-ghost use Rattle.std.specs.Prelude.{◌≡◌, ◌+◌, ◌^◌, ◌<◌, length};
-ghost use Rattle.grammar.specs.Paths.{index_at, path_at};
+ghost use Rattle.std.specs.Prelude.{◌≡◌};
+ghost use Rattle.controls.specs.Parts.{reading};
+ghost use Rattle.grammar.specs.Paths.{index_at};
+ghost use Rattle.controls.specs.Views.{path_index};
 
-use crate::marks::end_of;
 use crate::numbers::parse_i32;
-use grammar::ChildIndex;
+use crate::part::Part;
+use grammar::{ChildIndex, STEP_ALLOWANCE};
 use refusal::{FormatterError, ParseError};
 
-// The steps that a path may have before its index.
-const STEP_ALLOWANCE: u8 = 7;
-
 // A number that may stand in a path.
-pub(crate) fn parse_index(
-    text: &[u8],
-    place: usize,
-) -> Result<ChildIndex, ParseError<FormatterError>>
-    requires { place + length text.now < 2 ^ 64 }
-    ensures { result ≡ index_at place text.now }
+pub(crate) fn parse_index(part: Part) -> Result<ChildIndex, ParseError<FormatterError>>
+    ensures { result ≡ reading index_at part.entry }
 {
-    let value = parse_i32(text, place)?;
-    if value == i32::MAX {
-        return Err(ParseError {
-            place,
-            length: text.len(),
-            kind: FormatterError::InvalidNumber,
-        });
+    match parse_i32(part)? {
+        i32::MAX => Err(part.fault(FormatterError::InvalidNumber)),
+        number => Ok(ChildIndex(number)),
     }
-    Ok(ChildIndex(value))
 }
 
-// The place and the length of the steps, and the index behind them.
-pub(crate) fn parse_path(
-    text: &[u8],
-    place: usize,
-) -> Result<(usize, usize, ChildIndex), ParseError<FormatterError>>
-    requires { place + length text.now < 2 ^ 64 }
-    ensures { result ≡ path_at place text.now }
+// The index that ends a path, behind its steps.
+#[tactic(auto, using(crate::proofs::PathSteps::path_stops, crate::proofs::PathSteps::path_ends, crate::proofs::PathSteps::path_goes))]
+pub(crate) fn parse_path(part: Part) -> Result<ChildIndex, ParseError<FormatterError>>
+    ensures { result ≡ reading path_index part.entry }
 {
-    let [b'#', ..] = text else {
-        return Err(ParseError {
-            place,
-            length: text.len(),
-            kind: FormatterError::MissingHash,
-        });
+    let [b'#', ..] = part.text else {
+        return Err(part.fault(FormatterError::MissingHash));
     };
-    let mut from = 1;
-    let mut left: u8 = STEP_ALLOWANCE;
-    loop {
-        let end = end_of(text, from, b':');
-        let value = parse_index(&text[from..end], place + from)?;
-        if end == text.len() {
-            return Ok((place + 1, from - 1, value));
-        }
-        if left == 0 {
-            return Err(ParseError {
-                place: place + 1,
-                length: text.len() - 1,
-                kind: FormatterError::TooManyChildren,
-            });
-        }
-        left -= 1;
-        from = end + 1;
+    let numbers = part.behind(1);
+    let mut rest = numbers;
+    for _ in 0..STEP_ALLOWANCE + 1 {
+        let (front, behind) = rest.split(b':');
+        let index = parse_index(front)?;
+        let Some(next) = behind else {
+            return Ok(index);
+        };
+        rest = next;
     }
+    Err(numbers.fault(FormatterError::TooManyChildren))
 }

@@ -1,122 +1,103 @@
-ghost use Rattle.std.specs.Prelude.{◌≡◌, ◌+◌, ◌^◌, ◌<◌, ◌≤◌, length};
-ghost use Rattle.grammar.specs.Powers.{second_power, pair_at, last_field, behind_single, powers_at};
+ghost use Rattle.std.specs.Prelude.{◌≡◌};
+ghost use Rattle.controls.specs.Parts.{reading};
+ghost use Rattle.grammar.specs.Powers.{pair_at, last_field, behind_single, powers_at};
+ghost use Rattle.controls.specs.Views.{pair, seen_powers, seen_triple};
 
-use crate::marks::end_of;
 use crate::numbers::parse_u32;
+use crate::part::Part;
 use grammar::BindPowerPair;
 use refusal::{FormatterError, ParseError, PartingMark};
 
-// The power behind the comma of a pair, and the pair with it.
-fn parse_second(
-    left: u32,
-    text: &[u8],
-    place: usize,
-) -> Result<(bool, BindPowerPair), ParseError<FormatterError>>
-    requires { place + length text.now < 2 ^ 64 }
-    ensures { result ≡ second_power left place text.now }
-{
-    let comma = end_of(text, 0, b',');
-    let right = parse_u32(&text[0..comma], place)?;
-    if comma == text.len() {
-        return Ok((true, BindPowerPair { left, right }));
-    }
-    let kind = FormatterError::TooManyControl(PartingMark::Comma);
-    Err(ParseError {
-        place: place + (comma + 1),
-        length: text.len() - (comma + 1),
-        kind,
-    })
+// What is typed as `n` or as `n,m`.
+#[derive(Clone, Copy)]
+pub(crate) enum Powers {
+    One(u32),
+    Two(BindPowerPair),
 }
 
-// One power for both sides, or two: whether there are two, and the pair.
-pub(crate) fn parse_pair(
-    text: &[u8],
-    place: usize,
-) -> Result<(bool, BindPowerPair), ParseError<FormatterError>>
-    requires { place + length text.now < 2 ^ 64 }
-    ensures { result ≡ pair_at place text.now }
-{
-    let comma = end_of(text, 0, b',');
-    if comma == text.len() {
-        let both = parse_u32(text, place)?;
-        return Ok((
-            false,
-            BindPowerPair {
-                left: both,
-                right: both,
-            },
-        ));
+impl Powers {
+    // The powers on both sides, which one number stands for as well.
+    pub(crate) fn pair(self) -> BindPowerPair
+        ensures { result ≡ pair self }
+    {
+        match self {
+            Powers::One(power) => BindPowerPair::symmetric(power),
+            Powers::Two(pair) => pair,
+        }
     }
-    let left = parse_u32(&text[0..comma], place)?;
-    parse_second(left, &text[comma + 1..], place + (comma + 1))
+}
+
+// The powers of a repeat: to its left, in its middle and to its right.
+#[derive(Clone, Copy, Default)]
+pub(crate) struct RepeatPowers {
+    pub(crate) left: u32,
+    pub(crate) middle: BindPowerPair,
+    pub(crate) right: u32,
+}
+
+// One power for both sides, or two.
+pub(crate) fn parse_pair(part: Part) -> Result<Powers, ParseError<FormatterError>>
+    ensures { seen_powers result ≡ reading pair_at part.entry }
+{
+    let (front, behind) = part.split(b',');
+    let left = parse_u32(front)?;
+    let Some(second) = behind else {
+        return Ok(Powers::One(left));
+    };
+    let (front, behind) = second.split(b',');
+    let right = parse_u32(front)?;
+    match behind {
+        Some(third) => Err(third.fault(FormatterError::TooManyControl(PartingMark::Comma))),
+        None => Ok(Powers::Two(BindPowerPair { left, right })),
+    }
 }
 
 // The last field of a repeat's powers, which must be one power.
-fn parse_last(text: &[u8], place: usize) -> Result<u32, ParseError<FormatterError>>
-    requires { place + length text.now < 2 ^ 64 }
-    ensures { result ≡ last_field place text.now }
+fn parse_last(part: Part) -> Result<u32, ParseError<FormatterError>>
+    ensures { result ≡ reading last_field part.entry }
 {
-    let bar = end_of(text, 0, b'|');
-    if bar < text.len() {
-        let kind = FormatterError::TooManyControl(PartingMark::Bar);
-        return Err(ParseError {
-            place: place + (bar + 1),
-            length: text.len() - (bar + 1),
-            kind,
-        });
+    if let (_, Some(behind)) = part.split(b'|') {
+        return Err(behind.fault(FormatterError::TooManyControl(PartingMark::Bar)));
     }
-    let (two, pair) = parse_pair(text, place)?;
-    if two {
-        return Err(ParseError {
-            place,
-            length: text.len(),
-            kind: FormatterError::UnexpectedPair,
-        });
+    match parse_pair(part)? {
+        Powers::One(power) => Ok(power),
+        Powers::Two(_) => Err(part.fault(FormatterError::UnexpectedPair)),
     }
-    Ok(pair.left)
 }
 
 // The powers of a repeat whose first field is one power.
-fn parse_behind(
-    first: u32,
-    text: &[u8],
-    place: usize,
-) -> Result<(u32, BindPowerPair, u32), ParseError<FormatterError>>
-    requires { place + length text.now < 2 ^ 64 }
-    ensures { result ≡ behind_single first place text.now }
+fn parse_behind(left: u32, part: Part) -> Result<RepeatPowers, ParseError<FormatterError>>
+    ensures { seen_triple result ≡ reading (behind_single left) part.entry }
 {
-    let bar = end_of(text, 0, b'|');
-    let (two, second) = parse_pair(&text[0..bar], place)?;
-    if bar < text.len() {
-        let third = parse_last(&text[bar + 1..], place + (bar + 1))?;
-        return Ok((first, second, third));
-    }
-    if two {
-        Ok((first, second, 0))
-    } else {
-        Ok((first, BindPowerPair { left: 0, right: 0 }, second.left))
-    }
+    let (front, behind) = part.split(b'|');
+    let second = parse_pair(front)?;
+    let (middle, right) = match (second, behind) {
+        (_, Some(last)) => (second.pair(), parse_last(last)?),
+        (Powers::Two(middle), None) => (middle, 0),
+        (Powers::One(right), None) => (BindPowerPair::default(), right),
+    };
+    Ok(RepeatPowers {
+        left,
+        middle,
+        right,
+    })
 }
 
 // The powers of a repeat behind their first bar: `a`, `a,b`, `a|b`, `a,b|c`, `a|b,c`, `a|b|c` or `a|b,c|d`.
-pub(crate) fn parse_triple(
-    text: &[u8],
-    place: usize,
-) -> Result<(u32, BindPowerPair, u32), ParseError<FormatterError>>
-    requires { place + length text.now < 2 ^ 64 }
-    ensures { result ≡ powers_at place text.now }
+pub(crate) fn parse_triple(part: Part) -> Result<RepeatPowers, ParseError<FormatterError>>
+    ensures { seen_triple result ≡ reading powers_at part.entry }
 {
-    let bar = end_of(text, 0, b'|');
-    let (two, first) = parse_pair(&text[0..bar], place)?;
-    if bar == text.len() {
-        if two {
-            return Ok((0, first, 0));
-        }
-        return Ok((first.left, first, first.left));
-    }
-    if two {
-        let last = parse_last(&text[bar + 1..], place + (bar + 1))?;
-        return Ok((0, first, last));
-    }
-    parse_behind(first.left, &text[bar + 1..], place + (bar + 1))
+    let (front, behind) = part.split(b'|');
+    let first = parse_pair(front)?;
+    let (left, middle, right) = match (first, behind) {
+        (Powers::One(left), Some(rest)) => return parse_behind(left, rest),
+        (Powers::Two(middle), Some(last)) => (0, middle, parse_last(last)?),
+        (Powers::One(power), None) => (power, first.pair(), power),
+        (Powers::Two(middle), None) => (0, middle, 0),
+    };
+    Ok(RepeatPowers {
+        left,
+        middle,
+        right,
+    })
 }

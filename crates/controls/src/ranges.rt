@@ -1,29 +1,33 @@
-ghost use Rattle.std.specs.Prelude.{◌≡◌, ◌+◌, ◌^◌, ◌<◌, ◌≤◌, length};
+ghost use Rattle.std.specs.Prelude.{◌≡◌};
+ghost use Rattle.controls.specs.Parts.{reading};
 ghost use Rattle.grammar.specs.Controls.{range_at};
 ghost use Rattle.controls.specs.Views.{seen_range};
 
-use crate::marks::first_mark;
+use crate::part::Part;
 use crate::paths::{parse_index, parse_path};
 use grammar::ChildIndex;
 use refusal::{FormatterError, ParseError};
 
+// The children that a repeat goes over: a path with the first index, and the last index.
+#[derive(Clone, Copy)]
+pub(crate) struct ChildRange<'a> {
+    pub(crate) path: &'a [u8],
+    pub(crate) from: ChildIndex,
+    pub(crate) to: ChildIndex,
+}
+
 // A path with the first index, and the last index behind `..`.
-pub(crate) fn parse_range<'a>(
-    text: &'a [u8],
-    place: usize,
-) -> Result<(&'a [u8], ChildIndex, ChildIndex), ParseError<FormatterError>>
-    requires { place + length text.now < 2 ^ 64 }
-    ensures { seen_range result ≡ range_at place text.now }
+pub(crate) fn parse_range<'a>(part: Part<'a>) -> Result<ChildRange<'a>, ParseError<FormatterError>>
+    ensures { seen_range result ≡ reading range_at part.entry }
 {
-    let Some(at) = first_mark(text, b'.', b'.') else {
-        return Err(ParseError {
-            place,
-            length: text.len(),
-            kind: FormatterError::MissingRange,
-        });
+    let Some((path, last)) = part.cut(b'.', b'.') else {
+        return Err(part.fault(FormatterError::MissingRange));
     };
-    let path = &text[0..at];
-    let (_, _, from) = parse_path(path, place)?;
-    let to = parse_index(&text[at + 2..], place + (at + 2))?;
-    Ok((path, from, to))
+    let from = parse_path(path)?;
+    let to = parse_index(last)?;
+    Ok(ChildRange {
+        path: path.text,
+        from,
+        to,
+    })
 }

@@ -1,68 +1,42 @@
-ghost use Rattle.std.specs.Prelude.{◌≡◌, ◌+◌, ◌^◌, ◌<◌, ◌≤◌, length};
-ghost use Rattle.grammar.specs.Controls.{third_part, second_part, separators_at};
+ghost use Rattle.std.specs.Prelude.{◌≡◌};
+ghost use Rattle.controls.specs.Parts.{reading};
+ghost use Rattle.grammar.specs.Controls.{separators_at};
 ghost use Rattle.controls.specs.Views.{seen_parts};
 
-use crate::marks::unpaired;
+use crate::part::Part;
 use refusal::{FormatterError, ParseError, PartingMark};
 
-// Left, middle and right separator as typed.
-pub(crate) type Separators<'a> = (&'a [u8], &'a [u8], &'a [u8]);
-
-// All separators, the last being what stands behind the second bar.
-fn part_third<'a>(
-    left: &'a [u8],
-    middle: &'a [u8],
-    text: &'a [u8],
-    place: usize,
-) -> Result<Separators<'a>, ParseError<FormatterError>>
-    requires { place + length text.now < 2 ^ 64 }
-    ensures { seen_parts result ≡ third_part left.now middle.now place text.now }
-{
-    let bar = unpaired(text, b'|');
-    if bar < text.len() {
-        let kind = FormatterError::TooManyControl(PartingMark::Bar);
-        return Err(ParseError {
-            place: place + (bar + 1),
-            length: text.len() - (bar + 1),
-            kind,
-        });
-    }
-    Ok((left, middle, text))
-}
-
-// All separators, from what stands behind the first bar.
-fn part_second<'a>(
-    left: &'a [u8],
-    text: &'a [u8],
-    place: usize,
-) -> Result<Separators<'a>, ParseError<FormatterError>>
-    requires { place + length text.now < 2 ^ 64 }
-    ensures { seen_parts result ≡ second_part left.now place text.now }
-{
-    let bar = unpaired(text, b'|');
-    if bar == text.len() {
-        let kind = FormatterError::TooManyControl(PartingMark::Bar);
-        return Err(ParseError {
-            place,
-            length: text.len(),
-            kind,
-        });
-    }
-    part_third(left, &text[0..bar], &text[bar + 1..], place + (bar + 1))
+// The separators of a repeat as typed.
+#[derive(Clone, Copy, Default)]
+pub(crate) struct Separators<'a> {
+    pub(crate) left: &'a [u8],
+    pub(crate) middle: &'a [u8],
+    pub(crate) right: &'a [u8],
 }
 
 // One separator is the middle one; three are left, middle and right.
 pub(crate) fn part_separators<'a>(
-    text: &'a [u8],
-    place: usize,
+    part: Part<'a>,
 ) -> Result<Separators<'a>, ParseError<FormatterError>>
-    requires { place + length text.now < 2 ^ 64 }
-    ensures { seen_parts result ≡ separators_at place text.now }
+    ensures { seen_parts result ≡ reading separators_at part.entry }
 {
-    let bar = unpaired(text, b'|');
-    if bar == text.len() {
-        let none = &text[0..0];
-        return Ok((none, text, none));
+    let (left, behind) = part.split_unpaired(b'|');
+    let Some(second) = behind else {
+        return Ok(Separators {
+            middle: part.text,
+            ..Separators::default()
+        });
+    };
+    let (middle, behind) = second.split_unpaired(b'|');
+    let Some(third) = behind else {
+        return Err(second.fault(FormatterError::TooManyControl(PartingMark::Bar)));
+    };
+    if let (_, Some(fourth)) = third.split_unpaired(b'|') {
+        return Err(fourth.fault(FormatterError::TooManyControl(PartingMark::Bar)));
     }
-    part_second(&text[0..bar], &text[bar + 1..], place + (bar + 1))
+    Ok(Separators {
+        left: left.text,
+        middle: middle.text,
+        right: third.text,
+    })
 }

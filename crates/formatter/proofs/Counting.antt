@@ -9,7 +9,7 @@ use Rattle.grammar.specs.Templates.{body_at}
 use Rattle.grammar.proofs.Chains.{by_on_ok, same_ok}
 use Rattle.templates.specs.Views.{output_at}
 use Rattle.formatter.proofs.Outputs.{Worded, output_worded}
-use Rattle.formatter.proofs.Walk.{body_over, body_goes, body_full}
+use Rattle.templates.proofs.ReadBodies.{body_over, body_goes, body_full}
 
 abbrev AllWorded : List Shape → Type 0
 AllWorded [] = Unit {0}

@@ -8,8 +8,10 @@ use Rattle.grammar.specs.Results.{on_ok, refusal, Fault}
 use Rattle.grammar.specs.Shapes.{Shape}
 use Rattle.grammar.specs.Templates.{Typed, prefix_at, suffix_at, body_at, template_at, formatter_at}
 use Rattle.grammar.proofs.Chains.{by_on_ok, same_ok, refused}
+use Rattle.templates.specs.Outputs.{outputs_of}
 use Rattle.templates.specs.Views.{Summary, summary, summed, seen}
 use Rattle.templates.specs.declared.defns_const.FormatterConst.{FormatterConst}
+use Rattle.templates.proofs.OutputsLeft.{outputs_read}
 
 -- the pieces of a body, closed so that they are not unrolled
 unfoldable pieces : ℕ → List ℕ → Result (List Shape) Fault
@@ -86,3 +88,6 @@ known cs parts e =
       short = text_short cs parts t.0 t.1 same;
       shapes = shapes_are cs parts t.0 t.1 same;
     }
+
+pub outputs_are : (cs : List ℕ) (parts : FormatterConst) (k : Known cs parts) → outputs_of parts ≡ k.typed.shapes
+outputs_are cs parts k = outputs_read piece_allowance parts.text.now parts.start k.typed.shapes k.shapes

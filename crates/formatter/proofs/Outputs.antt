@@ -16,7 +16,9 @@ use Rattle.grammar.specs.Paths.{path_at}
 use Rattle.grammar.specs.Results.{on_ok, on_some, refusal, Fault}
 use Rattle.grammar.specs.Shapes.{Shape, typed_text, typed_child, typed_repeat, typed_capture}
 use Rattle.grammar.proofs.Chains.{same_some, nothing}
+use Rattle.templates.specs.Outputs.{first_outputs, outputs_of}
 use Rattle.templates.specs.Views.{okay, control_first, output_at}
+use Rattle.templates.specs.declared.defns_const.FormatterConst.{FormatterConst}
 use Rattle.formatter.specs.Views.{Short}
 
 abbrev ShortParts : ℕ → Parts → Type 0
@@ -151,3 +153,53 @@ seen-short (Capture n) h = tt
 
 pub output_short : (place : ℕ) (cs : List ℕ) (p : SubFormatterConst) (u : ℕ) → length cs ≤ template_limit → ◌≡◌ {A = Option (Shape × ℕ)} (Some (shape p, u)) (output_at place cs) → Short p
 output_short place cs p u h e = seen-short p (sound template_limit place cs (shape p) u h (sym e))
+
+-- ---- the pieces of a text
+-- the separators of all pieces have at most a template's bytes
+abbrev pub AllShort : List Shape → Type 0
+AllShort [] = Unit {0}
+AllShort (typed_text t ∷ ss) = AllShort ss
+AllShort (typed_child p i b ∷ ss) = AllShort ss
+AllShort (typed_repeat x ∷ ss) = (length x.left_sep ≤ template_limit) × (length x.middle_sep ≤ template_limit) × (length x.right_sep ≤ template_limit) × AllShort ss
+AllShort (typed_capture n ∷ ss) = AllShort ss
+
+one_short : (s : Shape) (ss : List Shape) → Sound template_limit s → AllShort ss → AllShort (s ∷ ss)
+one_short (typed_text t) ss h k = k
+one_short (typed_child p i b) ss h k = k
+one_short (typed_repeat x) ss h k = ⊎_elim (λ r. (r.0, r.1, r.2, k)) (λ r. let z : ◌≡◌ {A = ℕ} 0 1 = cc r.1 in absurd (omega arith)) h
+one_short (typed_capture n) ss h k = k
+
+first_short : (n place : ℕ) (cs : List ℕ) → length cs ≤ template_limit → AllShort (first_outputs n place cs)
+first_short zero place cs h = tt
+first_short (suc n) place cs h = go (λ p. first_short n (place + p.1) (drop p.1 cs) (omega (arith, length-drop p.1 cs))) (output_at place cs) refl
+  where
+    go : ((p : Shape × ℕ) → AllShort (first_outputs n (place + p.1) (drop p.1 cs))) → (o : Option (Shape × ℕ)) → output_at place cs ≡ o → AllShort (on_some o [] (λ p. p.0 ∷ first_outputs n (place + p.1) (drop p.1 cs)))
+    go ih None e = tt
+    go ih (Some p) e = one_short p.0 _ (sound template_limit place cs p.0 p.1 h e) (ih p)
+
+pub all_short : (f : FormatterConst) → length f.text.now ≤ template_limit → AllShort (outputs_of f)
+all_short f h = first_short (length f.text.now) f.start (drop f.start f.text.now) (omega (arith, length-drop f.start f.text.now))
+
+pub front_short : (p : SubFormatterConst) (ss : List Shape) → AllShort (shape p ∷ ss) → Short p
+front_short (String t) ss h = tt
+front_short (Single p i b) ss h = tt
+front_short (Repeat p f t l m r a b c) ss h = (h.0, h.1, h.2)
+front_short (Capture n) ss h = tt
+
+pub rest_short : (p : SubFormatterConst) (ss : List Shape) → AllShort (shape p ∷ ss) → AllShort ss
+rest_short (String t) ss h = h
+rest_short (Single p i b) ss h = h
+rest_short (Repeat p f t l m r a b c) ss h = h.3
+rest_short (Capture n) ss h = h
+
+no_more : (n place : ℕ) (cs : List ℕ) → length (first_outputs n place cs) ≤ n
+no_more zero place cs = omega arith
+no_more (suc n) place cs = go (λ p. no_more n (place + p.1) (drop p.1 cs)) (output_at place cs)
+  where
+    go : ((p : Shape × ℕ) → length (first_outputs n (place + p.1) (drop p.1 cs)) ≤ n) → (o : Option (Shape × ℕ)) → length (on_some o [] (λ p. p.0 ∷ first_outputs n (place + p.1) (drop p.1 cs))) ≤ suc n
+    go ih None = omega arith
+    go ih (Some p) = let h = ih p in omega arith
+
+-- no more pieces than bytes
+pub outputs_fit : (f : FormatterConst) → length (outputs_of f) ≤ length f.text.now
+outputs_fit f = no_more (length f.text.now) f.start (drop f.start f.text.now)

@@ -1,17 +1,17 @@
 -- The whole reading, put together from the template's and its separators'.
-use Rattle.std.proofs.Common.{◌≡◌, ℕ, List, drop, None, Ok, Err, Option, Result, sym, refl, ap, ◌∙◌, ap₂}
+use Rattle.std.proofs.Common.{◌≡◌, ℕ, List, None, Ok, Err, Option, Result, sym, refl, ap, ◌∙◌, ap₂}
 use Rattle.refusal.specs.Refusals.{of_template}
 use Rattle.grammar.specs.Deep.{DeepFault, deep_from, most_between, greatest}
-use Rattle.grammar.specs.Limits.{piece_allowance}
 use Rattle.grammar.specs.Readings.{Piece, Repeat, Template}
 use Rattle.grammar.specs.Results.{on_ok, on_err, Fault}
-use Rattle.grammar.specs.Templates.{Typed, body_at, most_typed}
+use Rattle.grammar.specs.Templates.{Typed, most_typed}
 use Rattle.grammar.proofs.Chains.{same_ok, refused}
+use Rattle.templates.specs.Outputs.{outputs_of}
 use Rattle.templates.specs.Views.{Summary, summary, summed, seen}
 use Rattle.templates.specs.declared.defns_const.FormatterConst.{FormatterConst}
 use Rattle.formatter.specs.Views.{between_pieces, deep_summary, formatter_read}
 use Rattle.formatter.proofs.Captures.{most_deep}
-use Rattle.formatter.proofs.Framed.{Known}
+use Rattle.formatter.proofs.Framed.{Known, outputs_are}
 
 abbrev pub reading : Typed → List (Piece Repeat) → Template
 reading t ps = record { left = t.left; right = t.right; pieces = ps }
@@ -41,12 +41,12 @@ module _ (cs : List ℕ) (parts : FormatterConst) (k : Known cs parts) where
   whole_is : formatter_read cs ≡ Deep cs k.typed (deep_from 0 k.typed.shapes)
   whole_is = ap (λ t. on_ok (on_err of_template t) (deep_summary cs)) k.found
 
-  between_is : between_pieces parts.max_capture (body_at piece_allowance parts.start (drop parts.start parts.text.now)) ≡ Between k.typed (deep_from 0 k.typed.shapes)
-  between_is = ap₂ between_pieces (sym (ap (λ (s : Summary). s.most) k.same)) k.shapes
+  between_is : between_pieces parts.max_capture (Ok (outputs_of parts)) ≡ Between k.typed (deep_from 0 k.typed.shapes)
+  between_is = ap₂ (λ m ss. between_pieces m (Ok ss)) (sym (ap (λ (s : Summary). s.most) k.same)) (outputs_are cs parts k)
 
-  pub pieces_fail : (e : DeepFault) → Err e ≡ between_pieces parts.max_capture (body_at piece_allowance parts.start (drop parts.start parts.text.now)) → Err e ≡ formatter_read cs
+  pub pieces_fail : (e : DeepFault) → Err e ≡ between_pieces parts.max_capture (Ok (outputs_of parts)) → Err e ≡ formatter_read cs
   pieces_fail e h = deep_fails cs k.typed (deep_from 0 k.typed.shapes) e (h ∙ between_is) ∙ sym whole_is
 
-  pub pieces_read : (m : Option ℕ) → Ok m ≡ between_pieces parts.max_capture (body_at piece_allowance parts.start (drop parts.start parts.text.now)) → Ok (seen parts, m) ≡ formatter_read cs
+  pub pieces_read : (m : Option ℕ) → Ok m ≡ between_pieces parts.max_capture (Ok (outputs_of parts)) → Ok (seen parts, m) ≡ formatter_read cs
   pieces_read m h =
       ap (λ s. Ok (s, m)) (sym k.same) ∙ deep_reads cs k.typed (deep_from 0 k.typed.shapes) m refl (h ∙ between_is) ∙ sym whole_is

@@ -1,7 +1,7 @@
 ghost use Rattle.std.specs.Prelude.{◌≡◌};
 ghost use Rattle.formatter.specs.Fallbacks.{fallback_number, fallback_name, fallback_layer, fallback_from};
 
-use refusal::{DeepError, Layer, ParseError, Refusal};
+use refusal::{DeepError, Layer, ParseError, Refusal, Told};
 
 // Why a template cannot stand for every name: it is at fault, or it asks for a capture above 0.
 #[derive(Clone, Copy, Debug, PartialEq, Eq)]
@@ -17,24 +17,14 @@ impl Refusal for FallbackParseError {
 
     ghost within = { fallback_layer };
 
-    fn number(&self) -> u8 {
+    fn told(&self) -> Told {
         match *self {
-            FallbackParseError::MaxCaptureTooLarge(_) => 15,
-            FallbackParseError::FormatterParseError(e) => e.kind.number(),
-        }
-    }
-
-    fn name(&self) -> &'static str {
-        match *self {
-            FallbackParseError::MaxCaptureTooLarge(_) => "MaxCaptureTooLarge",
-            FallbackParseError::FormatterParseError(e) => e.kind.name(),
-        }
-    }
-
-    fn layer(&self) -> Layer {
-        match *self {
-            FallbackParseError::MaxCaptureTooLarge(_) => Layer::Book,
-            FallbackParseError::FormatterParseError(_) => Layer::Template,
+            FallbackParseError::MaxCaptureTooLarge(_) => Told::new(
+                15,
+                "MaxCaptureTooLarge",
+                Layer::Book,
+            ),
+            FallbackParseError::FormatterParseError(e) => e.told(),
         }
     }
 }

@@ -1,6 +1,8 @@
 ghost use Rattle.std.specs.Prelude.{◌≡◌, ◌++◌, length, drop, if◌then◌else◌, Some, None, nat_le};
 ghost use Rattle.grammar.specs.Marks.{halve as halved};
 
+use controls::Halved;
+
 // Writes the text with its pairs of `mark` halved, and answers how many bytes that are. Where the text itself
 // would not fit, nothing is written.
 pub fn halve(text: &[u8], mark: u8, out: &mut [u8]) -> Option<usize>
@@ -10,17 +12,11 @@ pub fn halve(text: &[u8], mark: u8, out: &mut [u8]) -> Option<usize>
     if text.len() > out.len() {
         return None;
     }
-    let mut i = 0;
+    // by number: of bytes that are written through `iter_mut` a proof knows nothing, and the number is the answer
     let mut size = 0;
-    while i < text.len() {
-        let b = text[i];
+    for b in Halved::of(text, mark) {
         out[size] = b;
         size += 1;
-        if b == mark && i + 1 < text.len() && text[i + 1] == mark {
-            i += 2;
-        } else {
-            i += 1;
-        }
     }
     Some(size)
 }

@@ -1,9 +1,9 @@
-ghost use Rattle.std.specs.Prelude.{◌≡◌, ◌≤◌, true, length, drop, is_ok};
-ghost use Rattle.grammar.specs.Limits.{piece_allowance, template_limit};
-ghost use Rattle.grammar.specs.Templates.{body_at};
+ghost use Rattle.std.specs.Prelude.{◌≡◌, ◌≤◌, length, Ok};
+ghost use Rattle.grammar.specs.Limits.{template_limit};
 ghost use Rattle.controls.specs.Views.{shape};
+ghost use Rattle.templates.specs.Outputs.{outputs_of};
 ghost use Rattle.formatter.specs.Fallbacks.{fallback_read, seen_fallback};
-ghost use Rattle.formatter.specs.Views.{greater_of, in_separator, on_side, in_repeat, in_piece, Short, between_pieces, formatter_read, seen_formatter};
+ghost use Rattle.formatter.specs.Views.{in_separator, on_side, in_repeat, in_piece, Short, between_pieces, formatter_read, seen_formatter};
 ghost use Rattle.formatter.specs.Reading.{ReadAs, OutputsWalk, whole_reading};
 ghost use Rattle.grammar.specs.Deep.{deep_at};
 
@@ -12,31 +12,23 @@ use crate::error::FallbackParseError;
 use crate::halves::halve;
 use controls::SubFormatterConst;
 use refusal::{DeepError, FormatterError, InSeparator, ParseError, Side};
-use templates::{output_at, parse_template};
+use templates::{FormatterConst, TEMPLATE_LIMIT, parse_template};
 
-// The greater of two captures.
-fn greater(a: Option<u32>, b: Option<u32>) -> Option<u32>
-    ensures { result ≡ greater_of a b }
-{
-    match (a, b) {
-        (Some(x), Some(y)) => Some(x.max(y)),
-        (Some(x), None) => Some(x),
-        (None, y) => y,
-    }
-}
+// Room for a separator with its bars halved.
+type Scratch = [u8; TEMPLATE_LIMIT];
 
 // Reads a separator as a template, its bars halved, and answers the greatest capture so far.
 fn parse_separator(
     typed: &[u8],
-    scratch: &mut [u8],
+    scratch: &mut Scratch,
     most: Option<u32>,
 ) -> Result<Option<u32>, ParseError<FormatterError>>
-    requires { (length typed.now ≤ length scratch.old) × (length typed.now ≤ template_limit) }
+    requires { length typed.now ≤ template_limit }
     ensures { result ≡ in_separator most typed.now }
 {
     let size = halve(typed, b'|', scratch).unwrap_or(0);
     let read = parse_template(&scratch[0..size])?;
-    Ok(greater(most, read.max_capture))
+    Ok(most.max(read.max_capture))
 }
 
 // The same, with the repeat's number among the pieces and the side on a fault.
@@ -44,16 +36,13 @@ fn parse_side(
     piece: usize,
     side: Side,
     typed: &[u8],
-    scratch: &mut [u8],
+    scratch: &mut Scratch,
     most: Option<u32>,
 ) -> Result<Option<u32>, InSeparator>
-    requires { (length typed.now ≤ length scratch.old) × (length typed.now ≤ template_limit) }
+    requires { length typed.now ≤ template_limit }
     ensures { result ≡ on_side piece side most typed.now }
 {
-    match parse_separator(typed, scratch, most) {
-        Ok(more) => Ok(more),
-        Err(fault) => Err(InSeparator { piece, side, fault }),
-    }
+    parse_separator(typed, scratch, most).map_err(|fault| InSeparator { piece, side, fault })
 }
 
 // Reads the separators of a repeat from left to right.
@@ -62,12 +51,12 @@ fn parse_sides(
     left: &[u8],
     middle: &[u8],
     right: &[u8],
-    scratch: &mut [u8],
+    scratch: &mut Scratch,
     most: Option<u32>,
 ) -> Result<Option<u32>, ParseError<DeepError>>
-    requires left { (length left.now ≤ length scratch.old) × (length left.now ≤ template_limit) }
-    requires middle { (length middle.now ≤ length scratch.old) × (length middle.now ≤ template_limit) }
-    requires right { (length right.now ≤ length scratch.old) × (length right.now ≤ template_limit) }
+    requires left { length left.now ≤ template_limit }
+    requires middle { length middle.now ≤ template_limit }
+    requires right { length right.now ≤ template_limit }
     ensures { result ≡ in_repeat piece most left.now middle.now right.now }
 {
     let after_left = parse_side(piece, Side::Left, left, scratch, most)?;
@@ -80,10 +69,10 @@ fn parse_sides(
 fn parse_piece(
     number: usize,
     piece: &SubFormatterConst,
-    scratch: &mut [u8],
+    scratch: &mut Scratch,
     most: Option<u32>,
 ) -> Result<Option<u32>, ParseError<DeepError>>
-    requires { (template_limit ≤ length scratch.old) × (Short piece.now) }
+    requires { Short piece.now }
     ensures { result ≡ in_piece number most (shape piece.now) }
 {
     match *piece {
@@ -97,24 +86,17 @@ fn parse_piece(
     }
 }
 
-// Reads the separators of all pieces that stand in the text from `start` on.
+// Reads the separators of all pieces, and answers the greatest capture among the pieces and in the separators.
 fn parse_pieces(
-    text: &[u8],
-    start: usize,
-    scratch: &mut [u8],
-    most: Option<u32>,
+    parts: &FormatterConst,
+    scratch: &mut Scratch,
 ) -> Result<Option<u32>, ParseError<DeepError>>
-    requires template_limit_in_bounds { (template_limit ≤ length scratch.old) × (length text.now ≤ template_limit) }
-    requires read { is_ok (body_at piece_allowance start (drop start text.now)) ≡ true }
-    ensures { result ≡ between_pieces most (body_at piece_allowance start (drop start text.now)) }
+    requires { length parts.now.text.now ≤ template_limit }
+    ensures { result ≡ between_pieces parts.now.max_capture (Ok (outputs_of parts.now)) }
 {
-    let mut at = start;
-    let mut number = 0;
-    let mut greatest = most;
-    while let Some((piece, used)) = output_at(text, at) {
+    let mut greatest = parts.max_capture;
+    for (number, piece) in parts.outputs().enumerate() {
         greatest = parse_piece(number, &piece, scratch, greatest)?;
-        number += 1;
-        at += used;
     }
     Ok(greatest)
 }
@@ -128,8 +110,8 @@ pub fn parse_formatter<'a>(text: &'a [u8]) -> Result<Formatter<'a>, ParseError<D
     ensures walk { OutputsWalk }
 {
     let parts = parse_template(text)?;
-    let mut scratch = [0; 4096];
-    let max_capture = parse_pieces(parts.text, parts.start, &mut scratch, parts.max_capture)?;
+    let mut scratch = [0; TEMPLATE_LIMIT];
+    let max_capture = parse_pieces(&parts, &mut scratch)?;
     Ok(Formatter { parts, max_capture })
 }
 

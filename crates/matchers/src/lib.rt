@@ -5,4 +5,5 @@ mod defns_const;
 mod parse;
 
 pub use defns_const::{MatcherConst, MatcherKindConst};
-pub use parse::{MATCHER_LIMIT, parse_matcher};
+pub use grammar::MATCHER_LIMIT;
+pub use parse::parse_matcher;

@@ -2,7 +2,8 @@ pub mod Marks
 pub mod Turns
 pub mod Ways
 pub mod Ones
-pub mod Steps
 pub mod Greater
 pub mod Whole
 pub mod Joined
+pub mod ReadBodies
+pub mod OutputsLeft

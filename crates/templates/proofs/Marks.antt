@@ -1,31 +1,39 @@
--- Where marks stand, step by step.
-use Rattle.std.proofs.Common.{◌≡◌, ℕ, zero, suc, ◌+◌, ◌<◌, true, false, ltb, List, [], ◌∷◌, length, get_or, drop, Some, None, refl, ap, arith}
-use Rattle.std.proofs.lemmas.List.{drop_more}
-use Rattle.std.proofs.lemmas.Bool.{eq-eqb}
+-- Where marks stand.
+use Rattle.std.proofs.Common.{◌≡◌, ℕ, zero, suc, ◌+◌, ◌<◌, true, false, cond, eqb, ltb, List, [], ◌∷◌, length, get_or, Some, None, Option, MatchOption, sym, refl, ap, arith}
+use Rattle.std.specs.List.{position_or_len}
 use Rattle.std.proofs.lemmas.Bool.Decides.{nat_tests}
+use Rattle.std.proofs.lemmas.List.Recursion.{is_position_or_len}
 use Rattle.grammar.specs.Marks.{up_to, first_byte, last_byte}
 
--- one byte passed
-pub up_to-more : (m : ℕ) (cs : List ℕ) (i : ℕ) → i < length cs → (get_or cs i 0 ≡ m → ⊥) → i + up_to m (drop i cs) ≡ i + 1 + up_to m (drop (i + 1) cs)
-up_to-more m cs i h n = rw (drop_more cs i 0 h) (grind (arith, nat_tests))
+up_to_is : (m : ℕ) (xs : List ℕ) → up_to m xs ≡ position_or_len (λ b. eqb b m) xs
+up_to_is m = is_position_or_len (up_to m) (λ b. eqb b m) refl (λ x xs. let one : suc (up_to m xs) ≡ 1 + up_to m xs = omega arith in ap (λ (n : ℕ). cond (eqb x m) 0 n) one)
 
-pub up_to_here : (m : ℕ) (cs : List ℕ) (i : ℕ) → i < length cs → get_or cs i 0 ≡ m → up_to m (drop i cs) ≡ 0
-up_to_here m cs i h e = rw (drop_more cs i 0 h) (grind (arith, nat_tests))
+pub found_first : (m : ℕ) (xs : List ℕ) → cond (ltb (position_or_len (λ b. eqb b m) xs) (length xs)) (Some (position_or_len (λ b. eqb b m) xs)) None ≡ first_byte m xs
+found_first m xs = ap (λ k. cond (ltb k (length xs)) (Some k) None) (sym (up_to_is m xs))
 
-pub first_here : (m : ℕ) (cs : List ℕ) (i : ℕ) → i < length cs → i ≡ up_to m cs → Some i ≡ first_byte m cs
-first_here m cs i h e = let l : ltb (up_to m cs) (length cs) ≡ true = grind (arith, nat_tests) in rw l (ap (λ (x : ℕ). Some x) e)
+abbrev NoneIn : ℕ → List ℕ → Type 0
+NoneIn m xs = (k : ℕ) → k < length xs → get_or xs k 0 ≡ m → ⊥
 
-pub first-none : (m : ℕ) (cs : List ℕ) → length cs ≡ up_to m cs → None ≡ first_byte m cs
-first-none m cs e = let l : ltb (up_to m cs) (length cs) ≡ false = grind (arith, nat_tests) in rw l refl
+behind : (m x : ℕ) (xs : List ℕ) → NoneIn m (x ∷ xs) → NoneIn m xs
+behind m x xs h k l e = h (suc k) (omega arith) e
 
--- none stands behind the last one
-pub last_none : (m : ℕ) (cs : List ℕ) (i : ℕ) → i < length cs → (get_or cs i 0 ≡ m → ⊥) → last_byte m (drop (i + 1) cs) ≡ None → last_byte m (drop i cs) ≡ None
-last_none m cs i h n e = rw (drop_more cs i 0 h, e) (grind (arith, nat_tests))
+none_last : (m : ℕ) (xs : List ℕ) → NoneIn m xs → None ≡ last_byte m xs
+none_last m [] h = refl
+none_last m (x ∷ xs) h =
+    let no = h 0 (omega arith) in
+    let t : eqb x m ≡ false = grind (arith, nat_tests) in
+    rw (t, ← none_last m xs (behind m x xs h)) refl
 
-pub last_here : (m : ℕ) (cs : List ℕ) (i : ℕ) → i < length cs → get_or cs i 0 ≡ m → last_byte m (drop (i + 1) cs) ≡ None → last_byte m cs ≡ Some i
-last_here m [] i h s e = absurd (omega arith)
-last_here m (c ∷ cs) zero h s e = rw e (rw (eq-eqb c m s) refl)
-last_here m (c ∷ cs) (suc i) h s e =
-    let p : suc i + 1 ≡ suc (i + 1) = omega arith in
-    let q : last_byte m (drop (i + 1) cs) ≡ None = rw p at e in
-    rw (last_here m cs i (omega arith) s q) refl
+some_last : (m : ℕ) (xs : List ℕ) (i : ℕ) → i < length xs → get_or xs i 0 ≡ m → ((k : ℕ) → i < k → k < length xs → get_or xs k 0 ≡ m → ⊥) → Some i ≡ last_byte m xs
+some_last m [] i h e n = absurd (omega arith)
+some_last m (x ∷ xs) zero h e n =
+    let t : eqb x m ≡ true = grind (arith, nat_tests) in
+    rw (t, ← none_last m xs (λ k l e. n (suc k) (omega arith) (omega arith) e)) refl
+some_last m (x ∷ xs) (suc i) h e n = rw (← some_last m xs i (omega arith) e (λ k l g. n (suc k) (omega arith) (omega arith))) refl
+
+-- the last mark has none behind it
+pub found_last : (m : ℕ) (xs : List ℕ) (o : Option ℕ)
+    → MatchOption o ((k : ℕ) → k < length xs → get_or xs k 0 ≡ m → ⊥) (λ i. (i < length xs) × (get_or xs i 0 ≡ m) × ((k : ℕ) → i < k → k < length xs → get_or xs k 0 ≡ m → ⊥))
+    → o ≡ last_byte m xs
+found_last m xs None h = none_last m xs h
+found_last m xs (Some i) h = some_last m xs i h.0 h.1 h.2

@@ -1,14 +1,15 @@
 -- The ways through prefix and suffix.
-use Rattle.std.proofs.Common.{◌≡◌, ℕ, ◌+◌, ◌-◌, ◌<◌, ◌≤◌, Bool, true, false, eqb, ltb, List, [], ◌∷◌, length, get_or, take, drop, Some, None, Ok, Result, sym, refl, ◌∙◌, arith}
-use Rattle.std.proofs.lemmas.List.{take_rest, length-take, length-drop, drop-take, drop-drop, drop_all, get_or-drop}
-use Rattle.std.proofs.lemmas.Bool.{eq-eqb, ne_eqb, ltb-true, ltb-false}
+use Rattle.std.proofs.Common.{◌≡◌, ℕ, ◌+◌, ◌-◌, ◌<◌, true, false, List, [], ◌∷◌, length, get_or, take, drop, Some, None, Ok, Result, sym, refl, ap, ◌∙◌, arith}
+use Rattle.std.proofs.lemmas.List.{take_rest, length-take, length-drop, drop-take, drop-drop}
+use Rattle.std.proofs.lemmas.Bool.{eq-eqb}
+use Rattle.std.proofs.lemmas.Bool.Decides.{nat_tests}
 use Rattle.refusal.specs.declared.error.ClosingMark.TheVariants.{Dollar}
 use Rattle.refusal.specs.declared.error.FormatterError.TheVariants.{MissingControl}
 use Rattle.grammar.specs.Marks.{first_byte, last_byte, ends}
 use Rattle.grammar.specs.Numbers.{power_at}
 use Rattle.grammar.specs.Results.{on_ok, on_some, refusal, Fault}
 use Rattle.grammar.specs.Templates.{prefix_at, suffix_before, suffix_at}
-use Rattle.matchers.proofs.Ends.{ends_last}
+use Rattle.matchers.proofs.Ends.{ends_by}
 
 prefix_is : (cs : List ℕ) → get_or cs 0 0 ≡ 36 → prefix_at cs ≡ on_some (first_byte 36 (drop 1 cs)) (refusal (MissingControl Dollar) 1 (length (drop 1 cs))) (λ at. on_ok (power_at 1 (take at (drop 1 cs))) (λ n. Ok (n, at + 2)))
 prefix_is [] e = absurd (omega arith)
@@ -25,41 +26,32 @@ prefix_some cs at r e s p =
     let k : at + 1 - 1 ≡ at = omega arith in
     rw (prefix_is cs e, f, p, k) refl
 
-ends-drop : (m : ℕ) (cs : List ℕ) (from : ℕ) → from < length cs → ends m (drop from cs) ≡ eqb (get_or cs (length cs - 1) 0) m
-ends-drop m cs from h =
-    let l = length-drop from cs in
-    let k : from + (length cs - from - 1) ≡ length cs - 1 = omega arith in
-    ends_last m (drop from cs) (omega arith) ∙ rw (l, get_or-drop from cs (length cs - from - 1) 0, k) refl
+-- ---- the suffix of ds, which stands from a place of cs on
+module _ (cs : List ℕ) (from : ℕ) (ds : List ℕ) (is : ds ≡ drop from cs) where
+  long : length ds ≡ length cs - from
+  long = rw is (length-drop from cs)
 
-pub suffix_plain : (cs : List ℕ) (from : ℕ) → from ≤ length cs → (from < length cs → get_or cs (length cs - 1) 0 ≡ 36 → ⊥) → Ok (0, length cs - from) ≡ suffix_at from (drop from cs)
-suffix_plain cs from h n = go (ltb from (length cs)) refl where
-  go : (b : Bool) → ltb from (length cs) ≡ b → Ok (0, length cs - from) ≡ suffix_at from (drop from cs)
-  go true e =
-      let l : from < length cs = ltb-true from (length cs) e in
-      let q : ends 36 (drop from cs) ≡ false = ends-drop 36 cs from l ∙ ne_eqb (get_or cs (length cs - 1) 0) 36 (n l) in
-      rw q (rw (length-drop from cs) refl)
-  go false e =
-      let l : length cs ≤ from = ltb-false from (length cs) e in
-      let z : length cs - from ≡ 0 = omega arith in
-      rw (z, drop_all from cs l) refl
+  pub suffix_plain : (0 < length ds → get_or ds (length ds - 1) 0 ≡ 36 → ⊥) → Ok (0, length cs - from) ≡ suffix_at from (drop from cs)
+  suffix_plain n =
+      let e = ends_by 36 ds in
+      let q : ends 36 ds ≡ false = grind (arith, nat_tests) in
+      rw (← is) (rw q (ap (λ (k : ℕ). Ok (0, k)) (sym long)))
 
-suffix_closed : (cs : List ℕ) (from : ℕ) → from < length cs → get_or cs (length cs - 1) 0 ≡ 36 → suffix_at from (drop from cs) ≡ suffix_before from (take (length cs - 1 - from) (drop from cs))
-suffix_closed cs from h e =
-    let q : ends 36 (drop from cs) ≡ true = ends-drop 36 cs from h ∙ eq-eqb (get_or cs (length cs - 1) 0) 36 e in
-    let k : length (drop from cs) - 1 ≡ length cs - 1 - from = omega (arith, length-drop from cs) in
-    rw q (rw k refl)
+  module _ (some : 0 < length ds) (last : get_or ds (length ds - 1) 0 ≡ 36) where
+    closed : suffix_at from (drop from cs) ≡ suffix_before from (take (length ds - 1) ds)
+    closed =
+        let e = ends_by 36 ds in
+        let q : ends 36 ds ≡ true = grind (arith, nat_tests) in
+        rw (← is) (rw q refl)
 
-pub suffix_none : (cs : List ℕ) (from : ℕ) → from < length cs → get_or cs (length cs - 1) 0 ≡ 36 → None ≡ last_byte 36 (take (length cs - 1 - from) (drop from cs)) → refusal (MissingControl Dollar) from (length (take (length cs - 1 - from) (drop from cs))) ≡ suffix_at from (drop from cs)
-suffix_none cs from h e n =
-    let f : last_byte 36 (take (length cs - 1 - from) (drop from cs)) ≡ None = sym n in
-    rw (suffix_closed cs from h e, f) refl
+    pub suffix_none : (n : ℕ) → n ≡ length ds - 1 → None ≡ last_byte 36 (take (length ds - 1) ds) → refusal (MissingControl Dollar) from n ≡ suffix_at from (drop from cs)
+    suffix_none n e k =
+        let l : length (take (length ds - 1) ds) ≡ n = omega (arith, length-take (length ds - 1) ds) in
+        sym (closed ∙ rw (← k, l) refl)
 
-rest_behind : (cs : List ℕ) (from at : ℕ) → at < length (take (length cs - 1 - from) (drop from cs)) → drop (at + 1) (take (length cs - 1 - from) (drop from cs)) ≡ take (length cs - 1 - (from + (at + 1))) (drop (from + (at + 1)) cs)
-rest_behind cs from at l =
-    let k : length cs - 1 - from ≡ at + 1 + (length cs - 1 - (from + (at + 1))) = omega (arith, length-take (length cs - 1 - from) (drop from cs)) in
-    rw (k, drop-take (at + 1) (length cs - 1 - (from + (at + 1))) (drop from cs), drop-drop (at + 1) from cs) refl
-
-pub suffix_some : (cs : List ℕ) (from at : ℕ) (r : Result ℕ Fault) → from < length cs → get_or cs (length cs - 1) 0 ≡ 36 → at < length (take (length cs - 1 - from) (drop from cs)) → Some at ≡ last_byte 36 (take (length cs - 1 - from) (drop from cs)) → r ≡ power_at (from + (at + 1)) (take (length cs - 1 - (from + (at + 1))) (drop (from + (at + 1)) cs)) → on_ok r (λ n. Ok (n, at)) ≡ suffix_at from (drop from cs)
-suffix_some cs from at r h e l s p =
-    let f : last_byte 36 (take (length cs - 1 - from) (drop from cs)) ≡ Some at = sym s in
-    rw (suffix_closed cs from h e, f, rest_behind cs from at l, p) refl
+    pub suffix_some : (at to : ℕ) (r : Result ℕ Fault) → at < length ds - 1 → to ≡ from + (length ds - 1) → Some at ≡ last_byte 36 (take (length ds - 1) ds) → r ≡ power_at (from + (at + 1)) (take (to - (from + (at + 1))) (drop (from + (at + 1)) cs)) → on_ok r (λ n. Ok (n, at)) ≡ suffix_at from (drop from cs)
+    suffix_some at to r l t k p =
+        let z : length ds - 1 ≡ at + 1 + (to - (from + (at + 1))) = omega arith in
+        let d : drop (at + 1) (take (length ds - 1) ds) ≡ take (to - (from + (at + 1))) (drop (from + (at + 1)) cs) =
+        ap (λ (n : ℕ). drop (at + 1) (take n ds)) z ∙ drop-take (at + 1) (to - (from + (at + 1))) ds ∙ ap (λ (l : List ℕ). take (to - (from + (at + 1))) (drop (at + 1) l)) is ∙ ap (λ (l : List ℕ). take (to - (from + (at + 1))) l) (drop-drop (at + 1) from cs) in
+        sym (closed ∙ rw (← k, d, ← p) refl)

@@ -1,17 +1,15 @@
 -- What readers answer, by the bytes that the answer borrows.
-use Rattle.std.specs.Prelude.{ℕ, suc, ◌+◌, cond, List, [], ◌∷◌, length, take, drop, Some, None, Ok, Err, Option, Result, ◌==◌}
+use Rattle.std.specs.Prelude.{ℕ, suc, ◌+◌, cond, List, [], ◌∷◌, length, take, Some, None, Ok, Err, Option, Result, ◌==◌}
 use Rattle.controls.specs.Views.{shape}
 use Rattle.controls.specs.declared.defns_const.SubFormatterConst.{SubFormatterConst}
 use Rattle.controls.specs.declared.defns_const.SubFormatterConst.TheVariants.{String, Single, Repeat, Capture}
 use Rattle.grammar.specs.Controls.{control_at}
-use Rattle.grammar.specs.Limits.{piece_allowance}
 use Rattle.grammar.specs.Marks.{unpaired}
 use Rattle.grammar.specs.Matchers.{Matched}
-use Rattle.grammar.specs.Results.{on_ok, refusal, Fault}
+use Rattle.grammar.specs.Results.{Fault}
 use Rattle.grammar.specs.Shapes.{Shape, typed_text}
-use Rattle.grammar.specs.Templates.{Typed, leading, greater, most_typed}
+use Rattle.grammar.specs.Templates.{Typed, greater, most_typed}
 use Rattle.refusal.specs.declared.error.EitherError.{EitherError}
-use Rattle.refusal.specs.declared.error.FormatterError.TheVariants.{TooManyPieces}
 use Rattle.matchers.specs.Views.{matched}
 use Rattle.refusal.specs.declared.error.ParseError.{ParseError}
 use Rattle.templates.specs.declared.defns_const.FormatterConst.{FormatterConst}
@@ -22,22 +20,16 @@ abbrev pub seen_output : Option (SubFormatterConst × ℕ) → Option (Shape × 
 seen_output None = None
 seen_output (Some p) = Some (shape p.0, p.1)
 
--- how many bytes of text stand first, and the control behind them
-abbrev pub one_at : ℕ → List ℕ → Result (ℕ × Option (Shape × ℕ)) Fault
-one_at place cs = on_ok (leading (place + unpaired 36 cs) (drop (unpaired 36 cs) cs)) (λ next. Ok (unpaired 36 cs, next))
+abbrev pub seen_piece : Result (Option (SubFormatterConst × ℕ)) Fault → Result (Option (Shape × ℕ)) Fault
+seen_piece (Ok o) = Ok (seen_output o)
+seen_piece (Err e) = Err e
 
-abbrev pub seen_one : Result (ℕ × Option (SubFormatterConst × ℕ)) Fault → Result (ℕ × Option (Shape × ℕ)) Fault
-seen_one (Ok p) = Ok (p.0, seen_output p.1)
-seen_one (Err e) = Err e
-
+-- the greater of the greatest capture so far and a piece's own
 abbrev pub greater_of : Option ℕ → SubFormatterConst → Option ℕ
 greater_of m (String t) = m
 greater_of m (Single p i b) = m
 greater_of m (Repeat p f t l c r x y z) = m
 greater_of m (Capture n) = greater m n
-
-abbrev pub one_more : ℕ → ℕ → ℕ → Result ℕ Fault
-one_more n place size = cond (n == piece_allowance) (refusal TooManyPieces place size) (Ok (n + 1))
 
 -- how many pieces, and the greatest capture among them
 abbrev pub totals : Result (List Shape) Fault → Result (ℕ × Option ℕ) Fault

@@ -1,65 +1,62 @@
 ghost use Rattle.std.specs.Prelude.{◌≡◌, ◌+◌, ◌<◌, ◌≤◌, length, drop, IfOk, MatchOption};
 ghost use Rattle.grammar.specs.Limits.{piece_allowance};
 ghost use Rattle.grammar.specs.Results.{on_ok};
-ghost use Rattle.grammar.specs.Templates.{body_at, formatter_at, template_at};
-ghost use Rattle.templates.specs.Views.{one_at, seen_one, one_more, greater_of, totals, output_at, seen_output, summed, seen_formatter};
+ghost use Rattle.grammar.specs.Templates.{body_at, formatter_at, leading, piece_at, template_at};
+ghost use Rattle.templates.specs.Views.{seen_piece, greater_of, totals, summed, seen_formatter};
 
 use crate::defns_const::FormatterConst;
 use crate::frames::{parse_prefix, parse_suffix};
 use controls::{SubFormatterConst, parse_control, unpaired};
-use grammar::BindPowerPair;
+use grammar::{BindPowerPair, PIECE_ALLOWANCE, TEMPLATE_LIMIT};
 use refusal::{FormatterError, ParseError};
 
-// The pieces of a template, or of a separator.
-const PIECE_ALLOWANCE: usize = 64;
+// A place goes with the whole text, and not with the rest of it, since a fault is placed from the beginning of the template.
 
-// The bytes of a template.
-pub const TEMPLATE_LIMIT: usize = 4096;
-
-// How many bytes of text stand at `at`, and the control behind them, if there is one, with its length.
-fn parse_one<'a>(
+// The control that stands at `at` in the text, if it does not end there, and its length.
+fn parse_leading<'a>(
     text: &'a [u8],
     at: usize,
-) -> Result<(usize, Option<(SubFormatterConst<'a>, usize)>), ParseError<FormatterError>>
+) -> Result<Option<(SubFormatterConst<'a>, usize)>, ParseError<FormatterError>>
     requires { at ≤ length text.now }
-    ensures within { IfOk result (λ p. MatchOption p.1 (at + p.0 ≡ length text.now) (λ c. at + p.0 + c.1 ≤ length text.now)) }
-    ensures more { IfOk result (λ p. MatchOption p.1 (0 ≤ 0) (λ c. 0 < c.1)) }
-    ensures value { seen_one result ≡ one_at at (drop at text.now) }
+    ensures within { IfOk result (λ o. MatchOption o (at ≡ length text.now) (λ p. at + p.1 ≤ length text.now)) }
+    ensures more { IfOk result (λ o. MatchOption o (0 ≤ 0) (λ p. 0 < p.1)) }
+    ensures value { seen_piece result ≡ leading at (drop at text.now) }
 {
-    let words = unpaired(&text[at..], b'$');
-    if at + words == text.len() {
-        return Ok((words, None));
+    if at == text.len() {
+        return Ok(None);
     }
-    let (piece, used) = parse_control(text, at + words + 1)?;
-    Ok((words, Some((piece, used + 1))))
+    let (piece, used) = parse_control(text, at + 1)?;
+    Ok(Some((piece, used + 1)))
+}
+
+// The piece that stands at `at` in the text, and its length; none at the end. A control is read before the text in front
+// of it counts.
+fn parse_piece<'a>(
+    text: &'a [u8],
+    at: usize,
+) -> Result<Option<(SubFormatterConst<'a>, usize)>, ParseError<FormatterError>>
+    requires { at ≤ length text.now }
+    ensures within { IfOk result (λ o. MatchOption o (0 ≤ 0) (λ p. at + p.1 ≤ length text.now)) }
+    ensures more { IfOk result (λ o. MatchOption o (0 ≤ 0) (λ p. 0 < p.1)) }
+    ensures value { seen_piece result ≡ piece_at at (drop at text.now) }
+{
+    let size = unpaired(&text[at..], b'$');
+    let control = parse_leading(text, at + size)?;
+    if size == 0 {
+        return Ok(control);
+    }
+    let words = &text[at..at + size];
+    Ok(Some((SubFormatterConst::String(words), size)))
 }
 
 // The greater of the greatest capture so far and the piece's own.
 fn greater(most: Option<u32>, piece: &SubFormatterConst) -> Option<u32>
     ensures { result ≡ greater_of most piece.now }
 {
-    let SubFormatterConst::Capture(n) = *piece else {
-        return most;
-    };
-    match most {
-        Some(m) => Some(m.max(n)),
-        None => Some(n),
+    match *piece {
+        SubFormatterConst::Capture(number) => most.max(Some(number)),
+        _ => most,
     }
-}
-
-// One piece more, which has `size` bytes from `place` on.
-fn one_more(outputs: usize, place: usize, size: usize) -> Result<usize, ParseError<FormatterError>>
-    requires { outputs ≤ piece_allowance }
-    ensures { result ≡ one_more outputs place size }
-{
-    if outputs == PIECE_ALLOWANCE {
-        return Err(ParseError {
-            place,
-            length: size,
-            kind: FormatterError::TooManyPieces,
-        });
-    }
-    Ok(outputs + 1)
 }
 
 // How many pieces stand in the text from `from` on, and the greatest capture among them.
@@ -70,18 +67,16 @@ fn parse_body(text: &[u8], from: usize) -> Result<(usize, Option<u32>), ParseErr
     let mut at = from;
     let mut outputs = 0;
     let mut most = None;
-    loop {
-        let (words, control) = parse_one(text, at)?;
-        if words > 0 {
-            outputs = one_more(outputs, at, words)?;
+    // the place goes along, since a fault of the next piece is placed by it
+    while let Some((piece, size)) = parse_piece(text, at)? {
+        if outputs == PIECE_ALLOWANCE {
+            return Err(ParseError::new(FormatterError::TooManyPieces, at, size));
         }
-        let Some((piece, used)) = control else {
-            return Ok((outputs, most));
-        };
-        outputs = one_more(outputs, at + words, used)?;
+        outputs += 1;
         most = greater(most, &piece);
-        at = at + words + used;
+        at += size;
     }
+    Ok((outputs, most))
 }
 
 // A template of at most the allowed length.
@@ -108,30 +103,7 @@ pub fn parse_template<'a>(text: &'a [u8]) -> Result<FormatterConst<'a>, ParseErr
     ensures { seen_formatter result ≡ on_ok (formatter_at text.now) (summed text.now) }
 {
     if text.len() > TEMPLATE_LIMIT {
-        return Err(ParseError {
-            place: 0,
-            length: 0,
-            kind: FormatterError::TemplateTooLong,
-        });
+        return Err(ParseError::new(FormatterError::TemplateTooLong, 0, 0));
     }
     read_template(text)
-}
-
-// The piece that stands at `at` in the text, and its length; none at the end and where no piece stands.
-pub fn output_at<'a>(text: &'a [u8], at: usize) -> Option<(SubFormatterConst<'a>, usize)>
-    ensures within { MatchOption result (0 ≤ 0) (λ p. at + p.1 ≤ length text.now) }
-    ensures more { MatchOption result (0 ≤ 0) (λ p. 0 < p.1) }
-    ensures value { seen_output result ≡ output_at at (drop at text.now) }
-{
-    if at >= text.len() {
-        return None;
-    }
-    let words = unpaired(&text[at..], b'$');
-    if words > 0 {
-        return Some((SubFormatterConst::String(&text[at..at + words]), words));
-    }
-    match parse_control(text, at + 1) {
-        Ok((piece, used)) => Some((piece, used + 1)),
-        Err(_) => None,
-    }
 }

@@ -1,3 +1,7 @@
+ghost use Rattle.std.specs.Prelude.{◌≡◌};
+ghost use Rattle.templates.specs.Outputs.{outputs_left, outputs_of};
+
+use crate::walk::Outputs;
 use grammar::BindPowerPair;
 use matchers::MatcherConst;
 
@@ -11,6 +15,15 @@ pub struct FormatterConst<'a> {
     pub outputs: usize,
     // the greatest capture among them
     pub max_capture: Option<u32>,
+}
+
+impl<'a> FormatterConst<'a> {
+    // The pieces, one after the other.
+    pub fn outputs(&self) -> Outputs<'a>
+        ensures { outputs_left result ≡ outputs_of self.now }
+    {
+        Outputs::of(self.text, self.start)
+    }
 }
 
 // A definition: a matcher with its template.

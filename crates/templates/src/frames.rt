@@ -14,11 +14,8 @@ pub(crate) fn parse_prefix(text: &[u8]) -> Result<(u32, usize), ParseError<Forma
         return Ok((0, 0));
     };
     let Some(at) = first_byte(rest, b'$') else {
-        return Err(ParseError {
-            place: 1,
-            length: rest.len(),
-            kind: FormatterError::MissingControl(ClosingMark::Dollar),
-        });
+        let kind = FormatterError::MissingControl(ClosingMark::Dollar);
+        return Err(ParseError::new(kind, 1, rest.len()));
     };
     let left = parse_power(text, 1, at + 1)?;
     Ok((left, at + 2))
@@ -33,18 +30,13 @@ pub(crate) fn parse_suffix(
     ensures within { IfOk result (λ p. from + p.1 ≤ length text.now) }
     ensures value { result ≡ suffix_at from (drop from text.now) }
 {
-    let end = text.len();
-    if end == from || text[end - 1] != b'$' {
-        return Ok((0, end - from));
-    }
-    let rest = &text[from..end - 1];
-    let Some(at) = last_byte(rest, b'$') else {
-        return Err(ParseError {
-            place: from,
-            length: rest.len(),
-            kind: FormatterError::MissingControl(ClosingMark::Dollar),
-        });
+    let [rest @ .., b'$'] = &text[from..] else {
+        return Ok((0, text.len() - from));
     };
-    let right = parse_power(text, from + (at + 1), end - 1)?;
+    let Some(at) = last_byte(rest, b'$') else {
+        let kind = FormatterError::MissingControl(ClosingMark::Dollar);
+        return Err(ParseError::new(kind, from, rest.len()));
+    };
+    let right = parse_power(text, from + (at + 1), from + rest.len())?;
     Ok((right, at))
 }

@@ -6,7 +6,10 @@ mod defns_const;
 mod frames;
 mod scan;
 mod term_display;
+mod walk;
 
-pub use bodies::{TEMPLATE_LIMIT, output_at, parse_template};
+pub use bodies::parse_template;
 pub use defns_const::{FormatterConst, TermDisplayConst};
+pub use grammar::TEMPLATE_LIMIT;
 pub use term_display::parse_definition;
+pub use walk::{Outputs, output_at};

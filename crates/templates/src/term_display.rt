@@ -3,9 +3,10 @@ ghost use Rattle.grammar.specs.Matchers.{definition_at};
 ghost use Rattle.grammar.specs.Results.{on_ok};
 ghost use Rattle.templates.specs.Views.{seen_definition, defined};
 
-use crate::bodies::{TEMPLATE_LIMIT, read_template};
+use crate::bodies::read_template;
 use crate::defns_const::TermDisplayConst;
-use matchers::{MATCHER_LIMIT, MatcherKindConst, parse_matcher};
+use grammar::{MATCHER_LIMIT, TEMPLATE_LIMIT};
+use matchers::{MatcherKindConst, parse_matcher};
 use refusal::{EitherError, FormatterError, MatcherError, ParseError};
 
 // Reads any bytes as a matcher and a template, and checks that an exact matcher has no captures.
@@ -16,27 +17,17 @@ pub fn parse_definition<'a>(
     ensures { seen_definition result ≡ on_ok (definition_at matcher.now template.now) (defined template.now) }
 {
     if matcher.len() > MATCHER_LIMIT {
-        return Err(ParseError {
-            place: 0,
-            length: 0,
-            kind: EitherError::Matcher(MatcherError::MatcherTooLong),
-        });
+        let kind = EitherError::Matcher(MatcherError::MatcherTooLong);
+        return Err(ParseError::new(kind, 0, 0));
     }
     if template.len() > TEMPLATE_LIMIT {
-        return Err(ParseError {
-            place: 0,
-            length: 0,
-            kind: EitherError::Formatter(FormatterError::TemplateTooLong),
-        });
+        let kind = EitherError::Formatter(FormatterError::TemplateTooLong);
+        return Err(ParseError::new(kind, 0, 0));
     }
     let read = parse_matcher(matcher)?;
     let formatter = read_template(template)?;
     if let (MatcherKindConst::Exact, Some(_)) = (read.kind, formatter.max_capture) {
-        return Err(ParseError {
-            place: 0,
-            length: matcher.len(),
-            kind: EitherError::InvalidCapture,
-        });
+        return Err(ParseError::new(EitherError::InvalidCapture, 0, matcher.len()));
     }
     Ok(TermDisplayConst {
         matcher: read,

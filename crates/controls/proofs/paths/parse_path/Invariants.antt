@@ -1,10 +1,9 @@
-use Rattle.std.proofs.Common.{◌≡◌, ◌+◌, ◌-◌, ◌≤◌, length, drop}
-use Rattle.grammar.specs.Paths.{steps_from, split_on, path_at}
+use Rattle.std.proofs.Common.{◌≡◌, ◌+◌, ◌-◌, length}
+use Rattle.grammar.specs.Limits.{step_allowance}
+use Rattle.controls.specs.Views.{path_index}
+use Rattle.controls.proofs.PathSteps.{ahead}
 use Rattle.controls.proofs.paths.parse_path.Given as goal
 
-abbrev pub invariant-loop-value : goal.invariant-loop-value
-invariant-loop-value l =
-    (1 ≤ l.from) × (l.from ≤ length l.text) × (steps_from (l.place + 1) (length l.text - 1) l.left (l.place + l.from) (split_on 58 (drop l.from l.text)) ≡ path_at l.place l.text)
-
-abbrev pub decreases-loop-value : goal.decreases-loop-value
-decreases-loop-value l = length l.text - l.from
+abbrev pub invariant-loop : goal.invariant-loop
+invariant-loop l =
+    ahead l.numbers.place (length l.numbers.text.now) (step_allowance + 1 - l.counter) l.rest.place l.rest.text.now ≡ path_index l.part.place l.part.text.now

@@ -1,4 +1,4 @@
-use Rattle.std.proofs.Common.{◌≡◌, is_ok, Ok, ap, arith}
+use Rattle.std.proofs.Common.{◌≡◌, Ok}
 use Rattle.std.proofs.lemmas.Result.{err_from_is_err_and}
 use Rattle.grammar.specs.Templates.{formatter_at}
 use Rattle.formatter.specs.Views.{seen_formatter, formatter_read}
@@ -15,9 +15,7 @@ returns-in_err-parts c =
     record { exact = e; whole = whole_reading_lem c.args.text.now c.from_residual.result e; reading = read_as _ _ e; walk = outputs_walk }
 
 pub parse_pieces-requires : goal.parse_pieces-requires
-parse_pieces-requires c =
-    let k = known c.args.text.now c.in_ok-parts.parts c.in_ok-parts.ensures in
-    record { template_limit_in_bounds = (omega arith, k.short); read = ap is_ok k.shapes }
+parse_pieces-requires c = (known c.args.text.now c.in_ok-parts.parts c.in_ok-parts.ensures).short
 
 pub returns-in_err-max_capture : goal.returns-in_err-max_capture
 returns-in_err-max_capture c =

@@ -1,39 +1,43 @@
--- The first byte and the last say which of the four forms it is.
-use Rattle.std.proofs.Common.{◌≡◌, true, false, arith}
+use Rattle.std.proofs.Common.{◌≡◌, true, false, arith, length-take, length-drop}
 use Rattle.std.proofs.lemmas.Bool.Decides.{nat_tests}
 use Rattle.grammar.specs.Marks.{begins, ends}
-use Rattle.matchers.proofs.Ends.{begins-first, ends_last}
-use Rattle.matchers.proofs.Forms.{read_both, read_opened, read_closed, read_plain}
+use Rattle.matchers.proofs.Ends.{begins_by, ends_by}
+use Rattle.matchers.proofs.Forms.{read_both, read_closed}
 use Rattle.matchers.proofs.parse.read_matcher.Goals as goal
+use Rattle.matchers.proofs.parse.read_matcher.Goals.{then-text-lt2+in-41-1, else-text-lt2+in_default+in-41-1, then-text-lt2+in-40-1, else-text-lt2+in-40+in_default-1, in_default-via-then-text-lt1, in_default-via-else-text-lt1+then-text-lt2+in_default-1, in_default-via-else-text-lt1+else-text-lt2+in_default+in_default-text-4}
 
-pub returns-then-closed : goal.returns-then-closed
-returns-then-closed c =
-    let b = begins-first 40 c.args.text.now (omega arith) in
-    let e = ends_last 41 c.args.text.now (omega arith) in
+pub returns-in-40 : goal.returns-in-40
+returns-in-40 c =
+    let b = begins_by 40 c.args.text.now in
+    let e = ends_by 41 c.args.text.now in
     let p : begins 40 c.args.text.now ≡ true = grind (arith, nat_tests) in
     let q : ends 41 c.args.text.now ≡ true = grind (arith, nat_tests) in
-    read_both c.args.text.now c.blanks-count.result _ p q c.blanks-count.ensures.value c.kind_of-then-closed.ensures
+    read_both c.args.text.now _ _ _ p q c.without_blanks-count.ensures.count c.without_blanks-count.ensures.rest c.kind_of.ensures
 
-pub returns-then-opened-2 : goal.returns-then-opened-2
-returns-then-opened-2 c =
-    let b = begins-first 40 c.args.text.now (omega arith) in
-    let e = ends_last 41 c.args.text.now (omega arith) in
-    let p : begins 40 c.args.text.now ≡ true = grind (arith, nat_tests) in
-    let q : ends 41 c.args.text.now ≡ false = grind (arith, nat_tests) in
-    read_opened c.args.text.now p q
+pub returns-in-41 : goal.returns-in-41
+returns-in-41 c =
+    let b = begins_by 40 c.args.text.now in
+    let e = ends_by 41 c.args.text.now in
+    elim c.in-41-1.branch [
+      | then-text-lt2+in-41-1 w ↦ grind (arith, nat_tests)
+      | else-text-lt2+in_default+in-41-1 w ↦
+          let p : begins 40 c.args.text.now ≡ false = grind (arith, nat_tests) in
+          let q : ends 41 c.args.text.now ≡ true = grind (arith, nat_tests) in
+          read_closed c.args.text.now _ _ p q c.new.ensures (simp (length-take, length-drop) (omega arith))
+    ]
 
-pub returns-then-closed-2 : goal.returns-then-closed-2
-returns-then-closed-2 c =
-    let b = begins-first 40 c.args.text.now (omega arith) in
-    let e = ends_last 41 c.args.text.now (omega arith) in
-    let p : begins 40 c.args.text.now ≡ false = grind (arith, nat_tests) in
-    let q : ends 41 c.args.text.now ≡ true = grind (arith, nat_tests) in
-    read_closed c.args.text.now p q
+pub returns-in-40-2 : goal.returns-in-40-2
+returns-in-40-2 c =
+    let b = begins_by 40 c.args.text.now in
+    let e = ends_by 41 c.args.text.now in
+    elim c.in-40-2-1.branch [ then-text-lt2+in-40-1 w ↦ grind (arith, nat_tests) | else-text-lt2+in-40+in_default-1 w ↦ grind (arith, nat_tests) ]
 
-pub returns : goal.returns
-returns c =
-    let b = begins-first 40 c.args.text.now (omega arith) in
-    let e = ends_last 41 c.args.text.now (omega arith) in
-    let p : begins 40 c.args.text.now ≡ false = grind (arith, nat_tests) in
-    let q : ends 41 c.args.text.now ≡ false = grind (arith, nat_tests) in
-    read_plain c.args.text.now _ p q c.kind_of-2.ensures
+pub returns-in_default : goal.returns-in_default
+returns-in_default c =
+    let b = begins_by 40 c.args.text.now in
+    let e = ends_by 41 c.args.text.now in
+    elim c.in_default.branch [
+      | in_default-via-then-text-lt1 w ↦ grind (arith, nat_tests)
+      | in_default-via-else-text-lt1+then-text-lt2+in_default-1 w ↦ grind (arith, nat_tests)
+      | in_default-via-else-text-lt1+else-text-lt2+in_default+in_default-text-4 w ↦ grind (arith, nat_tests)
+    ]

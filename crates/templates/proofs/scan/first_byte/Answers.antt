@@ -1,13 +1,11 @@
--- Each turn passes one byte that is no mark.
-use Rattle.std.proofs.Common.{arith}
-use Rattle.templates.proofs.Marks.{up_to-more, up_to_here, first_here}
+use Rattle.std.proofs.Common.{eqb, ◌∙◌, rules, tests}
+use Rattle.std.proofs.lemmas.Iterator.{YieldsList-from_slice}
+use Rattle.std.proofs.lemmas.Iterator.Search.{position_from_yields_List}
+use Rattle.templates.proofs.Marks.{found_first}
 use Rattle.templates.proofs.scan.first_byte.Goals as goal
 
-pub returns-then-text-i : goal.returns-then-text-i
-returns-then-text-i c =
-    let e = up_to_here c.args.mark c.args.text.now c.loop-i.i (omega arith) c.if-text-i.true in
-    record { within = omega arith; value = first_here c.args.mark c.args.text.now c.loop-i.i (omega arith) (omega arith) }
-
-pub loop-i-preserved : goal.loop-i-preserved
-loop-i-preserved c =
-    let e = up_to-more c.args.mark c.args.text.now c.loop-i.i (omega arith) c.if-text-i.false in omega arith
+pub returns-clause-value : goal.returns-clause-value
+returns-clause-value c =
+    let xs = c.args.text.now in
+    position_from_yields_List (λ b. eqb b c.args.mark) _ _ c.position.result c.position.ensures.ran (YieldsList-from_slice xs cc) (λ x b q k. search (rules, tests))
+    ∙ found_first c.args.mark xs

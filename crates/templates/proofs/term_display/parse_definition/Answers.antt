@@ -12,7 +12,7 @@ use Rattle.templates.proofs.term_display.parse_definition.Goals.{in-Exact+in-Non
 
 pub returns-then-template-gt-TEMPLATE_LIMIT : goal.returns-then-template-gt-TEMPLATE_LIMIT
 returns-then-template-gt-TEMPLATE_LIMIT c =
-    template_long c.args.matcher.now c.args.template.now c.if-matcher-gt-MATCHER_LIMIT.false c.if-template-gt-TEMPLATE_LIMIT.true
+    ap (λ (x : ParseError EitherError). Err x) c.new-then-template-gt-TEMPLATE_LIMIT.ensures ∙ template_long c.args.matcher.now c.args.template.now c.if-matcher-gt-MATCHER_LIMIT.false c.if-template-gt-TEMPLATE_LIMIT.true
 
 pub returns-in_err-read : goal.returns-in_err-read
 returns-in_err-read c =
