@@ -1,4 +1,4 @@
 pub mod Turns
 pub mod Ties
 pub mod Rests
-pub mod Places
+pub mod Firsts

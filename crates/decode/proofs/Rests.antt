@@ -1,5 +1,5 @@
 -- What is left of a reading gives the whole answer, from command to command.
-use Rattle.std.proofs.Common.{◌≡◌, ℕ, ◌+◌, Bool, true, false, cond, not, ◌&&◌, eqb, leb, List, length, is_some, Some, None, Option, sym, refl, ap, ◌∙◌, arith}
+use Rattle.std.proofs.Common.{◌≡◌, ℕ, Bool, true, false, cond, not, ◌&&◌, eqb, leb, List, length, is_some, Some, None, Option, sym, refl, ap, ◌∙◌, arith}
 use Rattle.grammar.specs.Limits.{step_allowance, piece_allowance}
 use Rattle.grammar.specs.Numbers.{bits}
 use Rattle.grammar.specs.Readings.{Piece, Reading, Separator, Repeat, Template}
@@ -13,8 +13,8 @@ use Rattle.codes.proofs.ClearRuns.{clear_forward}
 use Rattle.wire.specs.declared.commands.Command.{Command as Read}
 use Rattle.wire.specs.declared.commands.Command.TheVariants.{End, Power, Byte, Step, Child, Range, Capture}
 use Rattle.decode.specs.declared.walks.Walk.{Walk}
-use Rattle.decode.specs.Walking.{one_piece, walked, walked_inside, closing}
-use Rattle.decode.specs.Behind.{behind_separator, behind_three, behind_command, allowed_from, judged, run_from, rest_inside, rest_outside, start}
+use Rattle.decode.specs.Walking.{start, one_piece, walked, walked_inside, closing}
+use Rattle.decode.specs.Behind.{behind_separator, behind_three, behind_command, allowed_from, judged, run_from, rest_inside, rest_outside}
 use Rattle.decode.proofs.Turns.{more, judged-more, turn_byte, turn_hold, turn_step, turn_point, turn_range}
 use Rattle.decode.proofs.Ties.{after, no_range, ranged, three}
 
@@ -116,7 +116,7 @@ module _ (l r : ℕ) (rest : List ℕ) where
   inside_grouped ks (Some ps) e =
       let z : grouped false ks ≡ true = (grouped_forward ks).0 ∙ ap is_some e in
       let n = (grouped_forward ks).1 ps e in
-      let p : 0 + counted false ks ≡ length ps = omega arith in
+      let p : counted false ks ≡ length ps = omega arith in
       rw (z, p, stepped_forward step_allowance ks ps e, clear_forward (not (eqb r 0)) ks ps e)
 
   and_three : (a b c : Bool) → (a && (b && c)) ≡ ((a && b) && c)
@@ -128,7 +128,7 @@ module _ (l r : ℕ) (rest : List ℕ) where
   outside-grouped ks (Some ps) e =
       let z : grouped false ks ≡ true = (grouped_forward ks).0 ∙ ap is_some e in
       let n = (grouped_forward ks).1 ps e in
-      let p : 0 + counted false ks ≡ length ps = omega arith in
+      let p : counted false ks ≡ length ps = omega arith in
       rw (z, p, ← within_forward step_allowance (repeats step_allowance) ks ps e) (ap (λ b. cond b (Some rest) None) (and_three (leb (length ps) piece_allowance) (stepped_by step_allowance 0 ks) (outside ks)))
 
 pub body_inside : (l r : ℕ) (cs : List ℕ) → on_some (body_at nothing l r cs) kept_separator ≡ rest_inside (not (eqb r 0)) start false cs

@@ -1,7 +1,7 @@
 -- One more command of a run, by how far its reading has come.
-use Rattle.std.proofs.Common.{◌≡◌, ℕ, suc, ◌+◌, ◌≤◌, Bool, true, false, cond, not, ◌&&◌, eqb, ltb, leb, List, [], ◌∷◌, Some, None, Option, refl, ap, ◌∙◌, arith}
-use Rattle.std.proofs.lemmas.Bool.{le-leb, lt-leb, ltb-false, ne_eqb}
-use Rattle.grammar.specs.Limits.{step_allowance, piece_allowance}
+use Rattle.std.proofs.Common.{◌≡◌, ℕ, suc, ◌+◌, ◌-◌, ◌<◌, Bool, true, false, cond, not, ◌&&◌, eqb, ltb, leb, List, [], ◌∷◌, Some, None, Option, refl, ap, ◌∙◌, arith}
+use Rattle.std.proofs.lemmas.Bool.{leb-true, leb-false, le-leb, lt-leb, ltb-true, ltb-false, ne_eqb}
+use Rattle.grammar.specs.Limits.{step_allowance}
 use Rattle.codes.specs.Code.{Command, byte, step, point, range, hold}
 use Rattle.codes.specs.Decode.{Got, on_some}
 use Rattle.codes.specs.Forward.{grouped, counted, stepped_by}
@@ -24,26 +24,31 @@ third_false true true = refl
 third_false true false = refl
 third_false false s = refl
 
-more_pieces : {R : Type 0} (w : Walk) (t : Bool) (ks : List (Command R))
-    → (grouped false ks && (leb (w.pieces + suc (counted t ks)) piece_allowance && stepped_by step_allowance 0 ks)) ≡ on_walk (one_piece w t) ks
-more_pieces w t ks = go (ltb w.pieces piece_allowance) refl
+less_room : (n r : ℕ) → 0 < r → leb (suc n) r ≡ leb n (r - 1)
+less_room n r h = go (leb n (r - 1)) refl
   where
-    go : (b : Bool) → ltb w.pieces piece_allowance ≡ b
-        → (grouped false ks && (leb (w.pieces + suc (counted t ks)) piece_allowance && stepped_by step_allowance 0 ks)) ≡ on_walk (cond b (Some (come 0 t (w.pieces + 1))) None) ks
-    go true e =
-        let z : w.pieces + suc (counted t ks) ≡ w.pieces + 1 + counted t ks = omega arith in
-        ap (λ n. grouped false ks && (leb n piece_allowance && stepped_by step_allowance 0 ks)) z
+    go : (b : Bool) → leb n (r - 1) ≡ b → leb (suc n) r ≡ b
+    go true e = let k = leb-true n (r - 1) e in le-leb (suc n) r (omega arith)
+    go false e = let k = leb-false n (r - 1) e in lt-leb (suc n) r (omega arith)
+
+more_pieces : {R : Type 0} (w : Walk) (t : Bool) (ks : List (Command R))
+    → (grouped false ks && (leb (suc (counted t ks)) w.room && stepped_by step_allowance 0 ks)) ≡ on_walk (one_piece w t) ks
+more_pieces w t ks = go (ltb 0 w.room) refl
+  where
+    go : (b : Bool) → ltb 0 w.room ≡ b
+        → (grouped false ks && (leb (suc (counted t ks)) w.room && stepped_by step_allowance 0 ks)) ≡ on_walk (cond b (Some (come 0 t (w.room - 1))) None) ks
+    go true e = ap (λ b. grouped false ks && (b && stepped_by step_allowance 0 ks)) (less_room (counted t ks) w.room (ltb-true 0 w.room e))
     go false e =
-        let h = ltb-false w.pieces piece_allowance e in
-        let z : leb (w.pieces + suc (counted t ks)) piece_allowance ≡ false = lt-leb _ _ (omega arith) in
+        let h = ltb-false 0 w.room e in
+        let z : leb (suc (counted t ks)) w.room ≡ false = lt-leb _ _ (omega arith) in
         ap (λ b. grouped false ks && (b && stepped_by step_allowance 0 ks)) z ∙ second_false (grouped false ks) (stepped_by step_allowance 0 ks)
 
 pub turn_byte : {R : Type 0} (w : Walk) (b : ℕ) (ks : List (Command R)) → allowed_from w (byte b ∷ ks) ≡ on_walk (walked w (Byte b)) ks
 turn_byte w b ks = go (eqb w.waiting 0) w.text
   where
     go : (z t : Bool)
-        → ((not (not z) && grouped false ks) && (leb (w.pieces + cond t (counted true ks) (suc (counted true ks))) piece_allowance && stepped_by step_allowance 0 ks))
-        ≡ on_walk (cond z (cond t (Some (come 0 true w.pieces)) (one_piece w true)) None) ks
+        → ((not (not z) && grouped false ks) && (leb (cond t (counted true ks) (suc (counted true ks))) w.room && stepped_by step_allowance 0 ks))
+        ≡ on_walk (cond z (cond t (Some (come 0 true w.room)) (one_piece w true)) None) ks
     go false t = refl
     go true true = refl
     go true false = more_pieces w true ks
@@ -52,7 +57,7 @@ pub turn_hold : {R : Type 0} (w : Walk) (n : ℕ) (ks : List (Command R)) → al
 turn_hold w n ks = go (eqb w.waiting 0)
   where
     go : (z : Bool)
-        → ((not (not z) && grouped false ks) && (leb (w.pieces + suc (counted false ks)) piece_allowance && stepped_by step_allowance 0 ks))
+        → ((not (not z) && grouped false ks) && (leb (suc (counted false ks)) w.room && stepped_by step_allowance 0 ks))
         ≡ on_walk (cond z (one_piece w false) None) ks
     go false = refl
     go true = more_pieces w false ks
@@ -61,13 +66,13 @@ pub turn_step : {R : Type 0} (w : Walk) (j : ℕ) (i : ChildIndex) (ks : List (C
 turn_step w j i ks = go (ltb w.waiting step_allowance)
   where
     go : (b : Bool)
-        → (grouped true ks && (leb (w.pieces + counted false ks) piece_allowance && (b && stepped_by step_allowance (suc w.waiting) ks)))
-        ≡ on_walk (cond b (Some (come (w.waiting + 1) false w.pieces)) None) ks
+        → (grouped true ks && (leb (counted false ks) w.room && (b && stepped_by step_allowance (suc w.waiting) ks)))
+        ≡ on_walk (cond b (Some (come (w.waiting + 1) false w.room)) None) ks
     go true =
         let z : suc w.waiting ≡ w.waiting + 1 = omega arith in
         let n : eqb (w.waiting + 1) 0 ≡ false = ne_eqb _ _ (λ e. omega arith) in
         rw (z, n)
-    go false = third_false (grouped true ks) (leb (w.pieces + counted false ks) piece_allowance)
+    go false = third_false (grouped true ks) (leb (counted false ks) w.room)
 
 pub turn_point : {R : Type 0} (w : Walk) (j x y : ℕ) (i : ChildIndex) (l r : ℕ) (ks : List (Command R)) → allowed_from w (point j x y ∷ ks) ≡ on_walk (walked w (Child i l r)) ks
 turn_point w j x y i l r ks = more_pieces w false ks
@@ -94,9 +99,9 @@ judged-more w E F k (Some ks) (Some v) true p q = rw (p ks.0, q ks.0)
 judged-more w E F k (Some ks) o false p q = rw (q ks.0, and_no (allowed_from w (k ∷ ks.0)))
 
 -- the end of a run
-pub judged_end : {R : Type 0} (w : Walk) (E : List (Command R) → Bool) (rest : List ℕ) → w.pieces ≤ piece_allowance
+pub judged_end : {R : Type 0} (w : Walk) (E : List (Command R) → Bool) (rest : List ℕ)
     → judged w E (Some ([], rest)) ≡ cond (eqb w.waiting 0 && E []) (Some rest) None
-judged_end w E rest h = rw (le-leb (w.pieces + 0) piece_allowance (omega arith)) (go (eqb w.waiting 0))
+judged_end w E rest = rw (le-leb 0 w.room (omega arith)) (go (eqb w.waiting 0))
   where
     go : (z : Bool) → cond ((not (not z) && true) && E []) (Some rest) None ≡ cond (z && E []) (Some rest) None
     go true = refl

@@ -1,19 +1,20 @@
 -- What stands behind a reading that is allowed.
-use Rattle.std.specs.Prelude.{ℕ, ◌+◌, Bool, false, cond, not, ◌&&◌, List, length, drop, Some, None, Option, ◌==◌, nat_le}
-use Rattle.grammar.specs.Limits.{step_allowance, piece_allowance}
+use Rattle.std.specs.Prelude.{ℕ, Bool, cond, not, ◌&&◌, List, length, Some, None, Option, ◌==◌, nat_le}
+use Rattle.grammar.specs.Limits.{step_allowance}
 use Rattle.codes.specs.Acceptable.{separates, repeats, acceptable}
 use Rattle.codes.specs.Code.{Command}
 use Rattle.codes.specs.Decode.{Got, on_some, run_at, nothing, repeat_at, separator_at, template_at}
 use Rattle.codes.specs.Forward.{grouped, counted, stepped_by, ranges_by, clear_by}
 use Rattle.wire.specs.declared.commands.Command.{Command as Read}
 use Rattle.wire.specs.declared.commands.Command.TheVariants.{End, Power, Byte, Step, Child, Range, Capture}
+use Rattle.wire.specs.Cursor.{bytes_of}
+use Rattle.wire.specs.declared.cursor.Commands.{Commands}
 use Rattle.decode.specs.declared.walks.Walk.{Walk}
-use Rattle.decode.specs.Walking.{come}
 
--- what stands from a place on
-abbrev pub from : List ℕ → Option ℕ → Option (List ℕ)
-from c None = None
-from c (Some k) = Some (drop k c)
+-- the bytes that are left to a reader, if there is one
+abbrev pub left_of : Option Commands → Option (List ℕ)
+left_of None = None
+left_of (Some c) = Some (bytes_of c)
 
 abbrev pub behind_separator : List ℕ → Option (List ℕ)
 behind_separator cs = on_some (separator_at cs) (λ p. cond (separates step_allowance p.0) (Some p.1) None)
@@ -36,7 +37,7 @@ behind_command (Capture n) cs = Some cs
 
 -- ---- the rest of a reading that has come so far
 abbrev pub allowed_from : {R : Type 0} → Walk → List (Command R) → Bool
-allowed_from w ks = grouped (not (w.waiting == 0)) ks && (nat_le (w.pieces + counted w.text ks) piece_allowance && stepped_by step_allowance w.waiting ks)
+allowed_from w ks = grouped (not (w.waiting == 0)) ks && (nat_le (counted w.text ks) w.room && stepped_by step_allowance w.waiting ks)
 
 -- behind the run that is left, if it and what E tells of it are allowed
 abbrev pub judged : {R : Type 0} → Walk → (List (Command R) → Bool) → Got (List (Command R)) → Option (List ℕ)
@@ -51,6 +52,3 @@ rest_inside m w c cs = judged w (clear_by m c) (run_from nothing cs)
 
 abbrev pub rest_outside : Walk → List ℕ → Option (List ℕ)
 rest_outside w cs = judged w (ranges_by (repeats step_allowance)) (run_from repeat_at cs)
-
-abbrev pub start : Walk
-start = come 0 false 0

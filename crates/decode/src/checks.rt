@@ -5,20 +5,13 @@ ghost use Rattle.grammar.specs.Readings.{Template};
 
 use crate::ends::template_end;
 use codes::CodeError;
-
-// The bytes of a code.
-const CODE_LIMIT: usize = 1024;
+use grammar::CODE_LIMIT;
+use wire::Commands;
 
 fn is_code(code: &[u8]) -> bool
     ensures { result ≡ is_some (decode code.now) }
 {
-    if code.len() > CODE_LIMIT {
-        return false;
-    }
-    match template_end(code) {
-        Some(end) => end == code.len(),
-        None => false,
-    }
+    code.len() <= CODE_LIMIT && template_end(Commands::of(code)).is_some_and(|rest| rest.is_done())
 }
 
 // Refuses bytes that are no accepted template's code, and no others.

@@ -1,110 +1,90 @@
-ghost use Rattle.std.specs.Prelude.{◌≡◌, ◌<◌, ◌≤◌, false, length, drop, MatchOption};
-ghost use Rattle.decode.specs.Behind.{from, behind_separator, behind_three, behind_command, behind_template, rest_inside, rest_outside, start};
+ghost use Rattle.std.specs.Prelude.{◌≡◌, ◌≤◌, false, length, IfSome};
+ghost use Rattle.wire.specs.Cursor.{bytes_of};
+ghost use Rattle.decode.specs.Behind.{left_of, behind_separator, behind_three, behind_command, behind_template, rest_inside, rest_outside};
+ghost use Rattle.decode.specs.Walking.{start, closing};
 
-use crate::walks::{Walk, is_closing, may_end, walk_inside, walk_on};
-use wire::{Command, command_at};
+use crate::walks::Walk;
+use wire::{Command, Commands};
 
-// The place behind the END of a separator whose commands stand at `place`, if it is allowed. `suffixed`: its right power is written.
-fn inside_end(code: &[u8], place: usize, suffixed: bool) -> Option<usize>
-    ensures within { MatchOption result (0 ≤ 0) (λ k. k ≤ length code.now) }
-    ensures further { MatchOption result (0 ≤ 0) (λ k. place ≤ k) }
-    ensures value { from code.now result ≡ rest_inside suffixed start false (drop place code.now) }
+// Whether the command is a text's `)`.
+fn is_closing(command: Command) -> bool
+    ensures { result ≡ closing command }
 {
-    let mut at = place;
-    let mut walk = Walk {
-        waiting: 0,
-        text: false,
-        pieces: 0,
-    };
-    let mut closed = false;
-    'run: loop {
-        let (command, next) = command_at(code, at)?;
-        if let Command::End = command {
-            if may_end(walk, closed, suffixed) {
-                return Some(next);
-            }
-            return None;
-        }
-        walk = walk_inside(walk, closed, command)?;
-        closed = is_closing(command);
-        at = next;
-    }
+    matches!(command, Command::Byte(b')'))
 }
 
-// The place behind the separator at `place`, if one stands there that is allowed.
-fn separator_end(code: &[u8], place: usize) -> Option<usize>
-    ensures within { MatchOption result (0 ≤ 0) (λ k. k ≤ length code.now) }
-    ensures further { MatchOption result (0 ≤ 0) (λ k. place ≤ k) }
-    ensures value { from code.now result ≡ behind_separator (drop place code.now) }
+// What stands behind the END of a separator whose commands come first, if it is allowed. `suffixed`: its right power is written. `outside_end`
+// has no text's `)` to remember, and separators to pass over: one function of both would take more parameters than they share lines.
+fn inside_end<'a>(mut commands: Commands<'a>, suffixed: bool) -> Option<Commands<'a>>
+    ensures fewer { IfSome result (λ c. length (bytes_of c) ≤ length (bytes_of commands.entry)) }
+    ensures value { left_of result ≡ rest_inside suffixed start false (bytes_of commands.entry) }
 {
-    match command_at(code, place)? {
-        (Command::Power { left: _, right }, next) => inside_end(code, next, right != 0),
+    let mut walk = Walk::start();
+    let mut closed = false;
+    'run: while let Some(command) = commands.read() {
+        if command.is_end() {
+            return walk.may_end(closed, suffixed).then_some(commands);
+        }
+        walk = walk.with_inside(closed, command)?;
+        closed = is_closing(command);
+    }
+    None
+}
+
+// What stands behind the separator that comes first, if one comes that is allowed. `template_end` begins
+// like this, five lines that one function for both would replace by a parameter, which neither contract has.
+fn separator_end<'a>(mut commands: Commands<'a>) -> Option<Commands<'a>>
+    ensures fewer { IfSome result (λ c. length (bytes_of c) ≤ length (bytes_of commands.entry)) }
+    ensures value { left_of result ≡ behind_separator (bytes_of commands.entry) }
+{
+    match commands.read()? {
+        Command::Power { right, .. } => inside_end(commands, right != 0),
         _ => None,
     }
 }
 
-// The place behind three separators, of which the first stands at `place`.
-fn three_end(code: &[u8], place: usize) -> Option<usize>
-    ensures within { MatchOption result (0 ≤ 0) (λ k. k ≤ length code.now) }
-    ensures further { MatchOption result (0 ≤ 0) (λ k. place ≤ k) }
-    ensures value { from code.now result ≡ behind_three (drop place code.now) }
+// What stands behind the three separators that come first.
+fn three_end<'a>(commands: Commands<'a>) -> Option<Commands<'a>>
+    ensures fewer { IfSome result (λ c. length (bytes_of c) ≤ length (bytes_of commands.entry)) }
+    ensures value { left_of result ≡ behind_three (bytes_of commands.entry) }
 {
-    let second = separator_end(code, place)?;
-    let third = separator_end(code, second)?;
-    separator_end(code, third)
+    separator_end(commands)
+        .and_then(separator_end)
+        .and_then(separator_end)
 }
 
-// The place behind a command whose operands end before `next`: a range has its three separators there.
-fn command_end(code: &[u8], command: Command, next: usize) -> Option<usize>
-    requires { next ≤ length code.now }
-    ensures within { MatchOption result (0 ≤ 0) (λ k. k ≤ length code.now) }
-    ensures further { MatchOption result (0 ≤ 0) (λ k. next ≤ k) }
-    ensures value { from code.now result ≡ behind_command command (drop next code.now) }
+// What stands behind a command whose operands have been read: a range has its three separators there.
+fn command_end<'a>(commands: Commands<'a>, command: Command) -> Option<Commands<'a>>
+    ensures fewer { IfSome result (λ c. length (bytes_of c) ≤ length (bytes_of commands.entry)) }
+    ensures value { left_of result ≡ behind_command command (bytes_of commands.entry) }
 {
     match command {
-        Command::Range {
-            from: _,
-            to: _,
-            left: _,
-            middle_left: _,
-            middle_right: _,
-            right: _,
-        } => three_end(code, next),
-        _ => Some(next),
+        Command::Range { .. } => three_end(commands),
+        _ => Some(commands),
     }
 }
 
-// The place behind the END of a template whose commands stand at `place`, if it is allowed.
-fn outside_end(code: &[u8], place: usize) -> Option<usize>
-    ensures within { MatchOption result (0 ≤ 0) (λ k. k ≤ length code.now) }
-    ensures value { from code.now result ≡ rest_outside start (drop place code.now) }
+// What stands behind the END of a template whose commands come first, if it is allowed.
+fn outside_end<'a>(mut commands: Commands<'a>) -> Option<Commands<'a>>
+    ensures { left_of result ≡ rest_outside start (bytes_of commands.entry) }
 {
-    let mut at = place;
-    let mut walk = Walk {
-        waiting: 0,
-        text: false,
-        pieces: 0,
-    };
-    'run: loop {
-        let (command, operands_end) = command_at(code, at)?;
-        if let Command::End = command {
-            if may_end(walk, false, false) {
-                return Some(operands_end);
-            }
-            return None;
+    let mut walk = Walk::start();
+    'run: while let Some(command) = commands.read() {
+        if command.is_end() {
+            return walk.may_end(false, false).then_some(commands);
         }
-        walk = walk_on(walk, command)?;
-        at = command_end(code, command, operands_end)?;
+        walk = walk.with(command)?;
+        commands = command_end(commands, command)?;
     }
+    None
 }
 
-// The place behind the template whose code stands first, if it is allowed.
-pub(crate) fn template_end(code: &[u8]) -> Option<usize>
-    ensures within { MatchOption result (0 ≤ 0) (λ k. k ≤ length code.now) }
-    ensures value { from code.now result ≡ behind_template code.now }
+// What stands behind the template whose code comes first, if it is allowed.
+pub(crate) fn template_end<'a>(mut commands: Commands<'a>) -> Option<Commands<'a>>
+    ensures { left_of result ≡ behind_template (bytes_of commands.entry) }
 {
-    match command_at(code, 0)? {
-        (Command::Power { left: _, right: _ }, next) => outside_end(code, next),
+    match commands.read()? {
+        Command::Power { .. } => outside_end(commands),
         _ => None,
     }
 }

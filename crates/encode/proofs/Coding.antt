@@ -1,5 +1,6 @@
 -- The code of what was typed is the code of its reading.
 use Rattle.std.proofs.Common.{◌≡◌, ℕ, ◌+◌, List, [], ◌∷◌, ◌++◌, Ok, sym, refl, ap, ◌∙◌, ap₂, append_assoc}
+use Rattle.std.specs.List.{AllByRecursion as All}
 use Rattle.refusal.specs.Refusals.{carried}
 use Rattle.refusal.specs.declared.error.Side.{Side}
 use Rattle.refusal.specs.declared.error.Side.TheVariants.{Left, Middle, Right}
@@ -15,7 +16,8 @@ use Rattle.grammar.proofs.Chains.{by_on_ok, by_on_err, same_ok}
 use Rattle.codes.specs.Code.{word, Command, point, range, run, bytes, steps, commands, never, code_separator, code_repeat}
 use Rattle.codes.proofs.Templates.{separator_onto}
 use Rattle.encode.specs.Shapes.{letters, paces, point_code, child_code, plain_code, separator_read, separator_code, separators_code, numbers_code, repeat_code, shape_code, codes_by, framed}
-use Rattle.encode.specs.Walks.{Readable, Spoken, Whole, Pathed, Walk, over, goes}
+use Rattle.encode.specs.Walks.{Readable, Whole, Pathed}
+use Rattle.encode.proofs.Routes.{Brief}
 
 -- ---- runs of commands
 module _ {R : Type 0} (f : R → List ℕ → List ℕ) (ks : List (Command R)) (cs : List ℕ) where
@@ -75,8 +77,15 @@ sides_run a b c x y z cs p q r =
     ∙ sym (append_assoc (separator_code x) (separator_code y ++ separator_code z) cs)
 
 -- ---- a repeat
+-- the separators of a piece are templates
+abbrev Read : Shape → Type 0
+Read (typed_text t) = Unit {0}
+Read (typed_child p i b) = Unit {0}
+Read (typed_repeat x) = Readable x.left_sep × Readable x.middle_sep × Readable x.right_sep
+Read (typed_capture n) = Unit {0}
+
 record Repeat-is (x : TypedRepeat) (r : Repeat) : Type 0 where
-  spoken : Spoken (typed_repeat x)
+  readable : Read (typed_repeat x)
   code : (cs : List ℕ) → 5 ∷ code_repeat r cs ≡ (numbers_code x.from x.to x.left x.middle x.right ++ separators_code x.left_sep x.middle_sep x.right_sep) ++ cs
 
 repeat_is : (n : ℕ) (x : TypedRepeat) (r : Repeat) → repeat_from n x ≡ Ok r → Repeat-is x r
@@ -88,7 +97,7 @@ repeat_is n x r e =
     let q = side_is n Middle x.middle_sep b.0 b.1 in
     let s = side_is n Right x.right_sep c.0 c.1 in
     record {
-      spoken = (p.readable, q.readable, s.readable);
+      readable = (p.readable, q.readable, s.readable);
       code = λ cs. ap (λ k. 5 ∷ code_repeat k cs) (sym (same_ok (deeply x a.0 b.0 c.0) r c.2))
           ∙ ap (λ l. 5 ∷ word (bits x.from.0) (word (bits x.to.0) (word x.left (word x.middle.left (word x.middle.right (word x.right l)))))) (sides_run a.0 b.0 c.0 x.left_sep x.middle_sep x.right_sep cs p q s);
     }
@@ -117,19 +126,25 @@ deep_run n (typed_capture k ∷ ss) ps cs e =
 
 -- ---- the separators of all pieces can be read
 record Next (n : ℕ) (s : Shape) (ss : List Shape) : Type 0 where
-  spoken : Spoken s
+  readable : Read s
   pieces : List (Piece Repeat)
   deep : deep_from (n + 1) ss ≡ Ok pieces
 
 next : (n : ℕ) (s : Shape) (ss : List Shape) (ps : List (Piece Repeat)) → deep_from n (s ∷ ss) ≡ Ok ps → Next n s ss
-next n (typed_text t) ss ps e = let p = by_on_ok (deep_from (n + 1) ss) _ ps e in record { spoken = tt; pieces = p.0; deep = p.1 }
-next n (typed_child a i b) ss ps e = let p = by_on_ok (deep_from (n + 1) ss) _ ps e in record { spoken = tt; pieces = p.0; deep = p.1 }
+next n (typed_text t) ss ps e = let p = by_on_ok (deep_from (n + 1) ss) _ ps e in record { readable = tt; pieces = p.0; deep = p.1 }
+next n (typed_child a i b) ss ps e = let p = by_on_ok (deep_from (n + 1) ss) _ ps e in record { readable = tt; pieces = p.0; deep = p.1 }
 next n (typed_repeat x) ss ps e =
     let y = by_on_ok (repeat_from n x) _ ps e in
     let p = by_on_ok (deep_from (n + 1) ss) _ ps y.2 in
-    record { spoken = (repeat_is n x y.0 y.1).spoken; pieces = p.0; deep = p.1 }
-next n (typed_capture k) ss ps e = let p = by_on_ok (deep_from (n + 1) ss) _ ps e in record { spoken = tt; pieces = p.0; deep = p.1 }
+    record { readable = (repeat_is n x y.0 y.1).readable; pieces = p.0; deep = p.1 }
+next n (typed_capture k) ss ps e = let p = by_on_ok (deep_from (n + 1) ss) _ ps e in record { readable = tt; pieces = p.0; deep = p.1 }
 
-pub whole_walk : {text : List ℕ} {place : ℕ} {ss : List Shape} → Walk Pathed text place ss → (n : ℕ) (ps : List (Piece Repeat)) → deep_from n ss ≡ Ok ps → Walk Whole text place ss
-whole_walk (over e) n ps d = over e
-whole_walk (goes {at} {u} {s} {ss} e g w) n ps d = let f = next n s ss ps d in goes e (g, f.spoken) (whole_walk w (n + 1) f.pieces f.deep)
+whole : (s : Shape) → Pathed s → Brief s → Read s → Whole s
+whole (typed_text t) p b r = (tt, tt)
+whole (typed_child a i k) p b r = (p, tt)
+whole (typed_repeat x) p b r = (p, ((b.0, r.0), (b.1, r.1), (b.2, r.2)))
+whole (typed_capture n) p b r = (tt, tt)
+
+pub all_whole : (ss : List Shape) → All Pathed ss → All Brief ss → (n : ℕ) (ps : List (Piece Repeat)) → deep_from n ss ≡ Ok ps → All Whole ss
+all_whole [] p b n ps d = tt
+all_whole (s ∷ ss) p b n ps d = let f = next n s ss ps d in (whole s p.0 b.0 f.readable, all_whole ss p.1 b.1 (n + 1) f.pieces f.deep)

@@ -1,8 +1,6 @@
-pub mod Strokes
-pub mod Halving
-pub mod PathWalk
+pub mod Words
 pub mod Pathing
-pub mod PieceWalk
+pub mod Routes
 pub mod Coding
 pub mod Readings
 pub mod Delivery

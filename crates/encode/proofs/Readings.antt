@@ -1,14 +1,15 @@
 -- Templates and separators that are read, and their codes.
-use Rattle.std.proofs.Common.{◌≡◌, ℕ, ◌≤◌, Bool, true, false, cond, leb, List, [], ◌∷◌, ◌++◌, length, Ok, Err, Option, Result, sym, refl, ap, ◌∙◌, subst, arith}
+use Rattle.std.proofs.Common.{◌≡◌, ℕ, ◌≤◌, Bool, true, false, cond, leb, List, [], ◌∷◌, ◌++◌, length, Ok, Err, Option, Result, sym, refl, ap, ◌∙◌, arith}
+use Rattle.std.specs.List.{AllByRecursion as All}
 use Rattle.refusal.specs.Refusals.{of_template}
 use Rattle.refusal.specs.declared.error.FormatterError.TheVariants.{TemplateTooLong}
-use Rattle.grammar.specs.Deep.{DeepFault, deep_from, deepened, reading_at, deep_at, greatest}
-use Rattle.grammar.specs.Limits.{template_limit}
+use Rattle.grammar.specs.Deep.{deep_from, deepened, reading_at, deep_at, greatest}
+use Rattle.grammar.specs.Limits.{template_limit, piece_allowance}
 use Rattle.grammar.specs.Marks.{halve}
 use Rattle.grammar.specs.Readings.{Piece, Repeat, Template}
-use Rattle.grammar.specs.Results.{on_ok, on_err, located, refusal, Fault}
+use Rattle.grammar.specs.Results.{on_ok, on_err, located, refusal}
 use Rattle.grammar.specs.Templates.{Typed, template_at, formatter_at}
-use Rattle.grammar.proofs.Chains.{by_on_ok, by_on_err, same_ok, refused}
+use Rattle.grammar.proofs.Chains.{by_on_ok, by_on_err, same_ok}
 use Rattle.templates.specs.Views.{Summary, summary, summed, seen}
 use Rattle.templates.specs.declared.defns_const.FormatterConst.{FormatterConst}
 use Rattle.formatter.specs.Views.{deep_summary, formatter_read, answered}
@@ -23,10 +24,12 @@ use Rattle.codes.specs.Faults.{of_formatter}
 use Rattle.codes.specs.declared.error.CodeError.TheVariants.{CodeTooLong}
 use Rattle.codes.specs.declared.error.EncodeError.{EncodeError}
 use Rattle.codes.specs.declared.error.EncodeError.TheVariants.{Code}
-use Rattle.encode.specs.Shapes.{plain_code, shape_code, codes_by, framed, shapes_in, separator_code}
-use Rattle.encode.specs.Walks.{Pathed, Whole, Walk, Readable}
-use Rattle.encode.proofs.Coding.{separator_is, deep_run, whole_walk}
-use Rattle.encode.proofs.PieceWalk.{walked, shapes_in_lem}
+use Rattle.encode.specs.Shapes.{plain_code, shape_code, codes_by, framed, separator_code}
+use Rattle.encode.specs.Walks.{Pathed, Whole, Readable}
+use Rattle.encode.proofs.Coding.{separator_is, deep_run, all_whole}
+use Rattle.encode.proofs.Routes.{all_pathed, all_brief}
+use Rattle.templates.proofs.OutputsLeft.{outputs_read}
+use Rattle.templates.specs.Outputs.{outputs_of}
 
 -- ---- separators
 module _ (typed xs : List ℕ) (is : xs ≡ halve 124 typed) (short : length typed ≤ template_limit) (p : Readable typed) where
@@ -35,20 +38,18 @@ module _ (typed xs : List ℕ) (is : xs ≡ halve 124 typed) (short : length typ
       let h : length (halve 124 typed) ≤ template_limit = omega (arith, no_longer 124 typed) in
       ap formatter_at is ∙ short_read (halve 124 typed) h
 
-  pub separator_read_lem : (e : Fault) → Err e ≡ on_ok (formatter_at xs) (summed xs) → ⊥
-  separator_read_lem e h = refused e _ (h ∙ ap (λ t. on_ok t (summed xs)) (same_template ∙ p.is))
-
   module _ (f : FormatterConst) (h : Ok (seen f) ≡ on_ok (formatter_at xs) (summed xs)) where
-    pub separator_walk : Walk Pathed f.text.now f.start (shapes_in f.start f.text.now)
-    separator_walk =
-        let k = known xs f h in
-        subst (Walk Pathed f.text.now f.start) (sym (shapes_in_lem f.text.now f.start k.typed.shapes k.shapes)) (walked f.text.now f.start k.typed.shapes k.shapes)
+    known_pieces : outputs_of f ≡ (known xs f h).typed.shapes
+    known_pieces = let k = known xs f h in outputs_read piece_allowance f.text.now f.start k.typed.shapes k.shapes
 
-    pub separator_code_lem : separator_code typed ≡ framed f.bind_power (codes_by plain_code (shapes_in f.start f.text.now))
+    pub separator_pathed : All Pathed (outputs_of f)
+    separator_pathed = all_pathed f.text.now f.start (known xs f h).short
+
+    pub separator_code_lem : separator_code typed ≡ framed f.bind_power (codes_by plain_code (outputs_of f))
     separator_code_lem =
         let k = known xs f h in
         separator_is typed k.typed f.bind_power (sym same_template ∙ k.found) (ap (λ (s : Summary). s.left) k.same) (ap (λ (s : Summary). s.right) k.same)
-        ∙ ap (λ ss. framed f.bind_power (codes_by plain_code ss)) (sym (shapes_in_lem f.text.now f.start k.typed.shapes k.shapes))
+        ∙ ap (λ ss. framed f.bind_power (codes_by plain_code ss)) (sym known_pieces)
 
 -- ---- a template of any length
 deep_is : (cs : List ℕ) → deep_at cs ≡ on_ok (on_err of_template (formatter_at cs)) deepened
@@ -57,46 +58,33 @@ deep_is cs = go (leb (length cs) template_limit) where
   go true = refl
   go false = refl
 
--- ---- where it is refused
-no_summary : {A : Type 0} (d : Result Template DeepFault) (g : Template → A) (e : DeepFault) → Err e ≡ on_ok d (λ r. Ok (g r)) → d ≡ Err e
-no_summary (Ok r) g e h = refused _ _ h
-no_summary (Err x) g e h = cc
-
-no_reading : (cs : List ℕ) (m : Result Typed DeepFault) (e : DeepFault) → Err e ≡ on_ok m (deep_summary cs) → on_ok m deepened ≡ Err e
-no_reading cs (Ok t) e h = no_summary (deepened t) (λ r. (summary cs t, greatest r)) e h
-no_reading cs (Err x) e h = cc
-
-pub not-encoded : (cs : List ℕ) (e : DeepFault) → Err e ≡ formatter_read cs → encoded cs ≡ Err (of_formatter e)
-not-encoded cs e h = ap (λ d. on_ok (on_err of_formatter d) short_code) (deep_is cs ∙ no_reading cs (on_err of_template (formatter_at cs)) e h)
-
 -- ---- where it is read
 abbrev pub coded : FormatterConst → List ℕ
-coded f = framed f.bind_power (codes_by shape_code (shapes_in f.start f.text.now))
+coded f = framed f.bind_power (codes_by shape_code (outputs_of f))
 
 abbrev pub limited_to : List ℕ → Result (List ℕ) EncodeError
 limited_to w = cond (leb (length w) code_limit) (Ok w) (Err (Code CodeTooLong))
 
 pub record Told (cs : List ℕ) (f : FormatterConst) : Type 0 where
-  pub short : length f.text.now ≤ template_limit
-  pub walk : Walk Whole f.text.now f.start (shapes_in f.start f.text.now)
+  pub good : All Whole (outputs_of f)
   pub encodes : encoded cs ≡ limited_to (coded f)
 
 abbrev reading : Typed → List (Piece Repeat) → Template
 reading t ps = record { left = t.left; right = t.right; pieces = ps }
 
-code_is : (cs : List ℕ) (t : Typed) (ps : List (Piece Repeat)) (f : FormatterConst) → summary cs t ≡ seen f → deep_from 0 t.shapes ≡ Ok ps → shapes_in f.start f.text.now ≡ t.shapes → code (reading t ps) ≡ coded f
+code_is : (cs : List ℕ) (t : Typed) (ps : List (Piece Repeat)) (f : FormatterConst) → summary cs t ≡ seen f → deep_from 0 t.shapes ≡ Ok ps → outputs_of f ≡ t.shapes → code (reading t ps) ≡ coded f
 code_is cs t ps f same deep shapes =
     ap (λ k. 1 ∷ word t.left (word t.right k)) (deep_run 0 t.shapes ps [] deep ∙ ap (λ ss. codes_by shape_code ss ++ (0 ∷ [])) (sym shapes))
-    ∙ ap (λ (s : Summary). 1 ∷ word s.left (word s.right (codes_by shape_code (shapes_in f.start f.text.now) ++ (0 ∷ [])))) same
+    ∙ ap (λ (s : Summary). 1 ∷ word s.left (word s.right (codes_by shape_code (outputs_of f) ++ (0 ∷ [])))) same
 
 told_of : (cs : List ℕ) (t : Typed) (ps : List (Piece Repeat)) (f : FormatterConst) → formatter_at cs ≡ Ok t → deep_from 0 t.shapes ≡ Ok ps → summary cs t ≡ seen f → Told cs f
 told_of cs t ps f found deep same =
     let body = shapes_are cs f t found same in
-    let shapes = shapes_in_lem f.text.now f.start t.shapes body in
+    let shapes = outputs_read piece_allowance f.text.now f.start t.shapes body in
+    let short = (known cs f (sym (ap (λ m. on_ok m (summed cs)) found ∙ ap (λ (s : Summary). Ok s) same))).short in
     let reads : deep_at cs ≡ Ok (reading t ps) = deep_is cs ∙ ap (λ m. on_ok (on_err of_template m) deepened) found ∙ ap (λ d. on_ok d (λ ps. Ok (reading t ps))) deep in
     record {
-      short = (known cs f (sym (ap (λ m. on_ok m (summed cs)) found ∙ ap (λ (s : Summary). Ok s) same))).short;
-      walk = subst (Walk Whole f.text.now f.start) (sym shapes) (whole_walk (walked f.text.now f.start t.shapes body) 0 ps deep);
+      good = all_whole (outputs_of f) (all_pathed f.text.now f.start short) (all_brief f.text.now f.start short) 0 ps (ap (deep_from 0) shapes ∙ deep);
       encodes = ap (λ d. on_ok (on_err of_formatter d) short_code) reads ∙ ap limited_to (code_is cs t ps f same deep shapes);
     }
 

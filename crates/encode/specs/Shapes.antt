@@ -1,17 +1,21 @@
 -- The code of pieces as they were typed.
-use Rattle.std.specs.Prelude.{ℕ, List, [], ◌∷◌, ◌++◌, drop, Ok, Err, Result}
+use Rattle.std.specs.Prelude.{ℕ, List, [], ◌∷◌, ◌++◌, Ok, Err, Result}
 use Rattle.grammar.specs.declared.defns.BindPowerPair.{BindPowerPair}
 use Rattle.grammar.specs.declared.defns.ChildIndex.{ChildIndex}
 use Rattle.grammar.specs.Deep.{plainly}
-use Rattle.grammar.specs.Limits.{piece_allowance}
 use Rattle.grammar.specs.Marks.{halve}
 use Rattle.grammar.specs.Numbers.{bits}
 use Rattle.grammar.specs.Paths.{steps_of}
 use Rattle.grammar.specs.Readings.{Separator}
 use Rattle.grammar.specs.Results.{Fault}
 use Rattle.grammar.specs.Shapes.{TypedRepeat, Shape, typed_text, typed_child, typed_repeat, typed_capture}
-use Rattle.grammar.specs.Templates.{Typed, body_at, template_at}
+use Rattle.grammar.specs.Templates.{Typed, template_at}
 use Rattle.codes.specs.Code.{word, code_separator}
+
+-- numbers, four bytes each
+abbrev pub words : List ℕ → List ℕ
+words [] = []
+words (n ∷ ns) = word n (words ns)
 
 -- the bytes of a text, each a BYTE
 abbrev pub letters : List ℕ → List ℕ
@@ -70,11 +74,3 @@ codes_by f (s ∷ ss) = f s ++ codes_by f ss
 -- POWER, the pieces and END
 abbrev pub framed : BindPowerPair → List ℕ → List ℕ
 framed b body = 1 ∷ word b.left (word b.right (body ++ (0 ∷ [])))
-
-abbrev pub listed : Result (List Shape) Fault → List Shape
-listed (Ok ss) = ss
-listed (Err e) = []
-
--- the pieces that stand in a text from a place on
-unfoldable pub shapes_in : ℕ → List ℕ → List Shape
-shapes_in place cs = listed (body_at piece_allowance place (drop place cs))

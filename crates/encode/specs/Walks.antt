@@ -1,11 +1,11 @@
 -- What is known of pieces that were read.
-use Rattle.std.specs.Prelude.{◌≡◌, ℕ, ◌+◌, List, [], ◌∷◌, drop, Some, None, Ok}
+use Rattle.std.specs.Prelude.{◌≡◌, ℕ, ◌≤◌, List, length, drop, Ok}
 use Rattle.grammar.specs.Grammar.{Path}
+use Rattle.grammar.specs.Limits.{template_limit}
 use Rattle.grammar.specs.Marks.{halve}
 use Rattle.grammar.specs.Paths.{steps_of}
 use Rattle.grammar.specs.Shapes.{Shape, typed_text, typed_child, typed_repeat, typed_capture}
 use Rattle.grammar.specs.Templates.{Typed, template_at}
-use Rattle.templates.specs.Views.{output_at}
 
 -- a path of the grammar, behind its `#`
 pub record Stepped (path : List ℕ) : Type 0 where
@@ -24,17 +24,16 @@ pub record Readable (typed : List ℕ) : Type 0 where
   pub read : Typed
   pub is : template_at (halve 124 typed) ≡ Ok read
 
+-- one of no more bytes than a template may have
+abbrev pub Legible : List ℕ → Type 0
+Legible typed = (length typed ≤ template_limit) × Readable typed
+
 -- and so are those of a piece
 abbrev pub Spoken : Shape → Type 0
 Spoken (typed_text t) = Unit {0}
 Spoken (typed_child p i b) = Unit {0}
-Spoken (typed_repeat x) = Readable x.left_sep × Readable x.middle_sep × Readable x.right_sep
+Spoken (typed_repeat x) = Legible x.left_sep × Legible x.middle_sep × Legible x.right_sep
 Spoken (typed_capture n) = Unit {0}
 
 abbrev pub Whole : Shape → Type 0
 Whole s = Pathed s × Spoken s
-
--- these pieces stand in the text from a place on, one after the other, and P holds of each
-pub data Walk (P : Shape → Type 0) (text : List ℕ) : ℕ → List Shape → Type 0 where
-  over : {at : ℕ} → output_at at (drop at text) ≡ None → Walk P text at []
-  goes : {at u : ℕ} {s : Shape} {ss : List Shape} → output_at at (drop at text) ≡ Some (s, u) → P s → Walk P text (at + u) ss → Walk P text at (s ∷ ss)

@@ -1,77 +1,61 @@
-ghost use Rattle.std.specs.Prelude.{◌≤◌, [], ◌∷◌, length};
-ghost use Rattle.codes.specs.Code.{word as word_of};
+ghost use Rattle.std.specs.List.{AllByRecursion};
 ghost use Rattle.controls.specs.Views.{shape};
 ghost use Rattle.pen.specs.Pen.{Wrote};
-ghost use Rattle.encode.specs.Shapes.{point_code, child_code, plain_code, codes_by, shapes_in};
-ghost use Rattle.encode.specs.Walks.{Stepped, Pathed, Walk};
+ghost use Rattle.encode.specs.Shapes.{child_code, plain_code, codes_by};
+ghost use Rattle.encode.specs.Walks.{Stepped, Pathed};
+ghost use Rattle.templates.specs.Outputs.{outputs_of};
 
+use crate::commands::command;
 use crate::steps::steps;
 use crate::texts::text;
-use crate::words::{bits, two, word};
+use codes::Opcode;
 use controls::SubFormatterConst;
 use grammar::{BindPowerPair, ChildIndex};
-use pen::put;
-use templates::output_at;
+use pen::{Full, Pen};
+use templates::FormatterConst;
 
-// An index with its powers: a CHILD.
-fn point(index: ChildIndex, powers: BindPowerPair, out: &mut [u8], at: usize) -> Option<usize>
-    ensures { Wrote out.old out.new at (point_code index powers) result }
-{
-    let behind_mark = put(out, at, 4)?;
-    let behind_index = word(out, behind_mark, bits(index))?;
-    two(out, behind_index, powers.left, powers.right)
-}
-
-// A child: its steps, and its index with the powers.
+// A child: its steps, and a CHILD of its index with the powers.
 fn child(
     path: &[u8],
     index: ChildIndex,
     powers: BindPowerPair,
-    out: &mut [u8],
-    at: usize,
-) -> Option<usize>
-    requires { (at ≤ length out.old) × (Stepped path.now) }
-    ensures { Wrote out.old out.new at (child_code path.now index powers) result }
+    pen: &mut Pen<'_>,
+) -> Result<(), Full>
+    requires { Stepped path.now }
+    ensures { Wrote pen.old pen.new (child_code path.now index powers) result }
 {
-    let behind = steps(path, out, at)?;
-    point(index, powers, out, behind)
-}
-
-// A capture: a CAPTURE with its number.
-fn capture(n: u32, out: &mut [u8], at: usize) -> Option<usize>
-    ensures { Wrote out.old out.new at (6 ∷ word_of n []) result }
-{
-    let behind = put(out, at, 6)?;
-    word(out, behind, n)
+    steps(path, pen)?;
+    command(
+        pen,
+        Opcode::Child,
+        &[index.bits(), powers.left, powers.right],
+    )
 }
 
 // A piece of a separator, which is never a repeat.
-pub(crate) fn plain_piece(piece: &SubFormatterConst, out: &mut [u8], at: usize) -> Option<usize>
-    requires { (at ≤ length out.old) × (Pathed (shape piece.now)) }
-    ensures { Wrote out.old out.new at (plain_code (shape piece.now)) result }
+pub(crate) fn plain_piece(piece: &SubFormatterConst, pen: &mut Pen<'_>) -> Result<(), Full>
+    requires { Pathed (shape piece.now) }
+    ensures { Wrote pen.old pen.new (plain_code (shape piece.now)) result }
 {
     match *piece {
-        SubFormatterConst::String(typed) => text(typed, out, at),
+        SubFormatterConst::String(typed) => text(typed, pen),
         SubFormatterConst::Single {
             path,
             index,
             bind_power,
-        } => child(path, index, bind_power, out, at),
-        SubFormatterConst::Capture(n) => capture(n, out, at),
-        SubFormatterConst::Repeat { .. } => Some(at),
+        } => child(path, index, bind_power, pen),
+        SubFormatterConst::Capture(n) => command(pen, Opcode::Capture, &[n]),
+        SubFormatterConst::Repeat { .. } => Ok(()),
     }
 }
 
-// The pieces of a separator, which stand in the text from `start` on.
-pub(crate) fn plain_pieces(text: &[u8], start: usize, out: &mut [u8], at: usize) -> Option<usize>
-    requires { (at ≤ length out.old) × (Walk Pathed text.now start (shapes_in start text.now)) }
-    ensures { Wrote out.old out.new at (codes_by plain_code (shapes_in start text.now)) result }
+// The pieces of a separator.
+pub(crate) fn plain_pieces(parts: &FormatterConst, pen: &mut Pen<'_>) -> Result<(), Full>
+    requires { AllByRecursion Pathed (outputs_of parts.now) }
+    ensures { Wrote pen.old pen.new (codes_by plain_code (outputs_of parts.now)) result }
 {
-    let mut place = start;
-    let mut pen = at;
-    while let Some((piece, used)) = output_at(text, place) {
-        pen = plain_piece(&piece, out, pen)?;
-        place += used;
+    for piece in parts.outputs() {
+        plain_piece(&piece, pen)?;
     }
-    Some(pen)
+    Ok(())
 }

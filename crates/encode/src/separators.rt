@@ -1,46 +1,47 @@
-ghost use Rattle.std.specs.Prelude.{◌≤◌, [], ◌∷◌, length};
+ghost use Rattle.std.specs.List.{AllByRecursion};
+ghost use Rattle.std.specs.Prelude.{[], ◌∷◌};
 ghost use Rattle.codes.specs.Code.{word as word_of};
-ghost use Rattle.grammar.specs.Limits.{template_limit};
 ghost use Rattle.pen.specs.Pen.{Wrote};
-ghost use Rattle.encode.specs.Shapes.{plain_code, codes_by, shapes_in, framed, separator_code, separators_code};
-ghost use Rattle.encode.specs.Walks.{Pathed, Walk, Readable};
+ghost use Rattle.encode.specs.Shapes.{plain_code, codes_by, framed, separator_code, separators_code};
+ghost use Rattle.encode.specs.Walks.{Pathed, Legible};
+ghost use Rattle.templates.specs.Outputs.{outputs_of};
 
+use crate::commands::command;
 use crate::pieces::plain_pieces;
-use crate::words::two;
+use codes::Opcode;
 use formatter::halve;
-use grammar::BindPowerPair;
-use pen::put;
+use grammar::{BindPowerPair, TEMPLATE_LIMIT};
+use pen::{Full, Pen};
 use templates::{FormatterConst, parse_template};
 
+// Room for the bytes of a separator with its bars halved.
+pub(crate) type Scratch = [u8; TEMPLATE_LIMIT];
+
 // The powers of a template or a separator: a POWER.
-pub(crate) fn power(powers: BindPowerPair, out: &mut [u8], at: usize) -> Option<usize>
-    ensures { Wrote out.old out.new at (1 ∷ word_of powers.left (word_of powers.right [])) result }
+pub(crate) fn power(powers: BindPowerPair, pen: &mut Pen<'_>) -> Result<(), Full>
+    ensures { Wrote pen.old pen.new (1 ∷ word_of powers.left (word_of powers.right [])) result }
 {
-    let behind = put(out, at, 1)?;
-    two(out, behind, powers.left, powers.right)
+    command(pen, Opcode::Power, &[powers.left, powers.right])
 }
 
 // A separator that is read: its powers, its pieces, END.
-fn framed_pieces(parts: &FormatterConst, out: &mut [u8], at: usize) -> Option<usize>
-    requires { Walk Pathed parts.now.text.now parts.now.start (shapes_in parts.now.start parts.now.text.now) }
-    ensures { Wrote out.old out.new at (framed parts.now.bind_power (codes_by plain_code (shapes_in parts.now.start parts.now.text.now))) result }
+fn framed_pieces(parts: &FormatterConst, pen: &mut Pen<'_>) -> Result<(), Full>
+    requires { AllByRecursion Pathed (outputs_of parts.now) }
+    ensures { Wrote pen.old pen.new (framed parts.now.bind_power (codes_by plain_code (outputs_of parts.now))) result }
 {
-    let behind_power = power(parts.bind_power, out, at)?;
-    let behind_pieces = plain_pieces(parts.text, parts.start, out, behind_power)?;
-    put(out, behind_pieces, 0)
+    power(parts.bind_power, pen)?;
+    plain_pieces(parts, pen)?;
+    command(pen, Opcode::End, &[])
 }
 
 // A separator as it was typed: its bars are halved into `scratch`, and it is read from there.
-fn separator(typed: &[u8], scratch: &mut [u8], out: &mut [u8], at: usize) -> Option<usize>
-    requires short { (length typed.now ≤ length scratch.old) × (length typed.now ≤ template_limit) }
-    requires read { Readable typed.now }
-    ensures { Wrote out.old out.new at (separator_code typed.now) result }
+fn separator(typed: &[u8], scratch: &mut Scratch, pen: &mut Pen<'_>) -> Result<(), Full>
+    requires { Legible typed.now }
+    ensures { Wrote pen.old pen.new (separator_code typed.now) result }
 {
     let size = halve(typed, b'|', scratch).unwrap_or(0);
-    let Ok(read) = parse_template(&scratch[0..size]) else {
-        return None;
-    };
-    framed_pieces(&read, out, at)
+    let read = parse_template(&scratch[0..size]).unwrap();
+    framed_pieces(&read, pen)
 }
 
 // The separators of a repeat.
@@ -48,17 +49,15 @@ pub(crate) fn separators(
     left: &[u8],
     middle: &[u8],
     right: &[u8],
-    scratch: &mut [u8],
-    out: &mut [u8],
-    at: usize,
-) -> Option<usize>
-    requires room { template_limit ≤ length scratch.old }
-    requires left { (length left.now ≤ template_limit) × (Readable left.now) }
-    requires middle { (length middle.now ≤ template_limit) × (Readable middle.now) }
-    requires right { (length right.now ≤ template_limit) × (Readable right.now) }
-    ensures { Wrote out.old out.new at (separators_code left.now middle.now right.now) result }
+    scratch: &mut Scratch,
+    pen: &mut Pen<'_>,
+) -> Result<(), Full>
+    requires left { Legible left.now }
+    requires middle { Legible middle.now }
+    requires right { Legible right.now }
+    ensures { Wrote pen.old pen.new (separators_code left.now middle.now right.now) result }
 {
-    let behind_left = separator(left, scratch, out, at)?;
-    let behind_middle = separator(middle, scratch, out, behind_left)?;
-    separator(right, scratch, out, behind_middle)
+    separator(left, scratch, pen)?;
+    separator(middle, scratch, pen)?;
+    separator(right, scratch, pen)
 }

@@ -1,9 +1,8 @@
 // The commands of a code, read one by one.
 #![tactic(auto)]
 
-mod ahead;
 mod commands;
-mod operands;
+mod cursor;
 
-pub use ahead::{behind, is_end, is_range, next_at};
-pub use commands::{Command, command_at};
+pub use commands::Command;
+pub use cursor::Commands;

@@ -1,32 +1,29 @@
 -- Bytes written one behind the other.
-use Rattle.std.proofs.Common.{◌≡◌, ℕ, ◌+◌, ◌-◌, ◌^◌, min, Bool, true, false, cond, List, [], ◌∷◌, ◌++◌, set, sym, refl, ap, ◌∙◌, append_assoc}
+use Rattle.std.proofs.Common.{◌≡◌, ℕ, Bool, true, false, cond, List, [], ◌∷◌, ◌++◌, sym, refl, ap, ◌∙◌, append_assoc, subst}
 use Rattle.grammar.specs.declared.defns.ChildIndex.{ChildIndex}
 use Rattle.wire.specs.declared.commands.Command.{Command}
 use Rattle.wire.specs.declared.commands.Command.TheVariants.{Range}
 use Rattle.written.specs.Spelled.{opened, indexed, powered, spelled}
-use Rattle.written.specs.Pens.{State, ink, inks}
+use Rattle.written.specs.Pens.{State, ink, inks, held, Writes}
+use Rattle.written.specs.declared.pen.Pen.{Pen}
 
 pub inks_append : (u v : List ℕ) (s : State) → inks (u ++ v) s ≡ inks v (inks u s)
 inks_append [] v s = refl
 inks_append (b ∷ u) v s = inks_append u v (ink b s)
 
 -- one list of bytes behind another
-pub then : (u v : List ℕ) (s₀ s₁ s₂ : State) → s₁ ≡ inks u s₀ → s₂ ≡ inks v s₁ → s₂ ≡ inks (u ++ v) s₀
-then u v s₀ s₁ s₂ e f = f ∙ ap (inks v) e ∙ sym (inks_append u v s₀)
+pub then : {u v : List ℕ} {a b c : Pen} → Writes u a b → Writes v b c → Writes (u ++ v) a c
+then {u} {v} {a} e f = record { wrote = f.wrote ∙ ap (inks v) e.wrote ∙ sym (inks_append u v (held a)); same = f.same ∙ e.same }
 
--- the second list where b does not hold
-pub otherwise : (b : Bool) (v w : List ℕ) (s₀ s : State) → b ≡ false → s ≡ inks w s₀ → s ≡ inks (cond b v w) s₀
-otherwise b v w s₀ s h e = rw h e
+-- the second list where t does not hold
+pub otherwise : {w : List ℕ} {a b : Pen} (t : Bool) (v : List ℕ) → t ≡ false → Writes w a b → Writes (cond t v w) a b
+otherwise {w} {a} {b} t v h e = subst (λ t. Writes (cond t v w) a b) (sym h) e
 
--- the first where it holds, or nothing
-pub when : (b : Bool) (w : List ℕ) (s₀ s : State) → b ≡ true → s ≡ inks w s₀ → s ≡ inks (cond b w []) s₀
-when b w s₀ s h e = rw h e
+-- the first where it holds
+pub when : {v : List ℕ} {a b : Pen} (t : Bool) (w : List ℕ) → t ≡ true → Writes v a b → Writes (cond t v w) a b
+when {v} {a} {b} t w h e = subst (λ t. Writes (cond t v w) a b) (sym h) e
 
-pub same_ink : (l l' : List ℕ) (i i' b : ℕ) → l' ≡ set l i b → i' ≡ min (i + 1) (2 ^ 64 - 1) → ◌≡◌ {A = State} (record { buffer = l'; at = i'; last = b }) (record { buffer = set l i b; at = min (i + 1) (2 ^ 64 - 1); last = b })
-same_ink l l' i i' b p q = λ k. record { buffer = p k; at = q k; last = b }
-
-pub ranged : (n w : Bool) (k : Command) (f t : ChildIndex) (l a b r : ℕ) (ks : List Command) (s₀ s₁ s₂ : State) → k ≡ Range f t l a b r → s₁ ≡ inks (opened w 40 ++ (indexed f ++ (46 ∷ 46 ∷ indexed t))) s₀ → s₂ ≡ inks (powered l a b r) s₁ → s₂ ≡ inks (spelled n w k ks) s₀
-ranged n w k f t l a b r ks s₀ s₁ s₂ i e g =
-    then (opened w 40 ++ (indexed f ++ (46 ∷ 46 ∷ indexed t))) (powered l a b r) s₀ s₁ s₂ e g
-    ∙ ap (λ u. inks u s₀) (append_assoc (opened w 40) (indexed f ++ (46 ∷ 46 ∷ indexed t)) (powered l a b r) ∙ ap (λ u. opened w 40 ++ u) (append_assoc (indexed f) (46 ∷ 46 ∷ indexed t) (powered l a b r)))
-    ∙ ap (λ k. inks (spelled n w k ks) s₀) (sym i)
+-- what is written for a range, and its powers
+pub ranged : {x y z : Pen} (n w : Bool) (f t : ChildIndex) (l a b r : ℕ) (ks : List Command) → Writes (opened w 40 ++ (indexed f ++ (46 ∷ 46 ∷ indexed t))) x y → Writes (powered l a b r) y z → Writes (spelled n w (Range f t l a b r) ks) x z
+ranged {x} {y} {z} n w f t l a b r ks e g =
+    subst (λ u. Writes u x z) (append_assoc (opened w 40) (indexed f ++ (46 ∷ 46 ∷ indexed t)) (powered l a b r) ∙ ap (λ u. opened w 40 ++ u) (append_assoc (indexed f) (46 ∷ 46 ∷ indexed t) (powered l a b r))) (then e g)

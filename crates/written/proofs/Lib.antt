@@ -1,4 +1,4 @@
-pub mod Falling
+pub mod Digits
 pub mod Inks
 pub mod Runs
 pub mod Spelling

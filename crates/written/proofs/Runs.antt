@@ -1,20 +1,35 @@
 -- What is left to write, command by command.
-use Rattle.std.proofs.Common.{◌≡◌, ℕ, zero, suc, Bool, true, false, cond, not, ◌&&◌, ◌||◌, eqb, List, [], ◌∷◌, ◌++◌, sym, refl, ap, ◌∙◌, append_assoc, arith}
-use Rattle.codes.specs.Written.{empty, marked, prefixed, suffixed, around}
+use Rattle.std.proofs.Common.{◌≡◌, ℕ, zero, suc, Bool, true, false, cond, not, ◌&&◌, ◌||◌, eqb, ◌<◌, ◌≤◌, ◌+◌, List, [], ◌∷◌, ◌++◌, length, get_or, drop, sym, refl, ap, ◌∙◌, append_assoc, subst, arith}
+use Rattle.std.proofs.lemmas.List.{drop_more}
+use Rattle.codes.specs.Written.{empty, marked, prefixed, around}
 use Rattle.grammar.specs.Marks.{begins, ends}
 use Rattle.wire.specs.declared.commands.Command.{Command}
 use Rattle.wire.specs.declared.commands.Command.TheVariants.{End, Power, Byte, Step, Child, Range, Capture}
 use Rattle.written.proofs.Inks.{inks_append, then}
 use Rattle.wire.specs.Ahead.{is_end, is_range, past}
 use Rattle.written.specs.Ahead.{over, is_step, is_mark, of_first, bare_run}
-use Rattle.written.specs.Pens.{State, ink, inks}
+use Rattle.written.specs.Pens.{State, ink, inks, held, Writes}
+use Rattle.written.specs.declared.pen.Pen.{Pen}
 use Rattle.written.specs.Spelled.{texted, spelled, run_back, three_of, separators_of, body_of}
 
+-- of what has to be written from the pen p on, so much is left to the pen q
+pub record Left (rest whole : List ℕ) (p q : Pen) : Type 0 where
+  pub owed : inks rest (held q) ≡ inks whole (held p)
+  pub same : q.out.ghost_name ≡ p.out.ghost_name
+
+-- the first of it is written
+one_less : {u v w : List ℕ} {p q r : Pen} → Left (u ++ v) w p q → Writes u q r → Left v w p r
+one_less {u} {v} {w} {p} {q} l e = record { owed = ap (inks v) e.wrote ∙ sym (inks_append u v (held q)) ∙ l.owed; same = e.same ∙ l.same }
+
+-- one byte more of a list
+pub byte_less : {w : List ℕ} {p q r : Pen} (bs : List ℕ) (i : ℕ) → i < length bs → Left (drop i bs) w p q → Writes (get_or bs i 0 ∷ []) q r → Left (drop (i + 1) bs) w p r
+byte_less {w} {p} {q} bs i h l e = one_less (subst (λ t. Left t w p q) (drop_more bs i 0 h) l) e
+
 -- ---- a run in a separator
-pub run_more : (w : Bool) (k : Command) (ws ks : List Command) (s s' whole : State) → ws ≡ k ∷ ks → over k ≡ false → s' ≡ inks (spelled true w k ks) s → inks (run_back w ws) s ≡ whole → inks (run_back (is_step k) ks) s' ≡ whole
-run_more w k ws ks s s' whole e o f h =
-    ap (inks (run_back (is_step k) ks)) f ∙ sym (inks_append (spelled true w k ks) (run_back (is_step k) ks) s)
-    ∙ ap (λ b. inks (cond b [] (spelled true w k ks ++ run_back (is_step k) ks)) s) (sym o) ∙ ap (λ l. inks (run_back w l) s) (sym e) ∙ h
+pub run_more : {whole : List ℕ} {p q r : Pen} (w b : Bool) (k : Command) (ws ks : List Command) → ws ≡ k ∷ ks → false ≡ over k → Left (run_back w ws) whole p q → Writes (spelled true w k ks) q r → b ≡ is_step k → Left (run_back b ks) whole p r
+run_more {whole} {p} {q} {r} w b k ws ks e o l f s =
+    subst (λ b. Left (run_back b ks) whole p r) (sym s)
+    (one_less (subst (λ t. Left t whole p q) (ap (run_back w) e ∙ ap (λ b. cond b [] (spelled true w k ks ++ run_back (is_step k) ks)) (sym o)) l) f)
 
 -- ---- the run of a template
 body_past : (n : ℕ) (w : Bool) (ks : List Command) → body_of (suc n) w ks ≡ body_of n w (past ks)
@@ -48,15 +63,28 @@ rest_parts k ks true e =
     ∙ ap (λ l. separators_of ks ++ 41 ∷ 36 ∷ l) (past_three ks ∙ ap (λ w. body_of 0 w (past (past (past ks)))) (sym (range_no_step k e)))
     ∙ sym (append_assoc (separators_of ks) (41 ∷ 36 ∷ []) (body_of 0 (is_step k) (past (past (past ks)))))
 
-pub body_more : (w : Bool) (k : Command) (ws ks next : List Command) (s s₁ s₂ whole : State) → ws ≡ k ∷ ks → over k ≡ false → s₁ ≡ inks (spelled false w k ks) s
-    → s₂ ≡ inks (cond (is_range k) (separators_of ks ++ 41 ∷ 36 ∷ []) []) s₁ → next ≡ cond (is_range k) (past (past (past ks))) ks → inks (body_of 0 w ws) s ≡ whole → inks (body_of 0 (is_step k) next) s₂ ≡ whole
-body_more w k ws ks next s s₁ s₂ whole e o f g n h =
-    ap (λ l. inks (body_of 0 (is_step k) l) s₂) n
-    ∙ ap (inks (body_of 0 (is_step k) (cond (is_range k) (past (past (past ks))) ks))) g
-    ∙ sym (inks_append (cond (is_range k) (separators_of ks ++ 41 ∷ 36 ∷ []) []) (body_of 0 (is_step k) (cond (is_range k) (past (past (past ks))) ks)) s₁)
-    ∙ ap (λ l. inks l s₁) (sym (rest_parts k ks (is_range k) refl))
-    ∙ ap (inks (rest k ks)) f ∙ sym (inks_append (spelled false w k ks) (rest k ks) s)
-    ∙ ap (λ b. inks (cond b [] (spelled false w k ks ++ rest k ks)) s) (sym o) ∙ ap (λ l. inks (body_of 0 w l) s) (sym e) ∙ h
+pub body_more : {whole : List ℕ} {p q r t : Pen} (w b : Bool) (k : Command) (ws ks next : List Command) → ws ≡ k ∷ ks → false ≡ over k → next ≡ cond (is_range k) (past (past (past ks))) ks → Left (body_of 0 w ws) whole p q
+    → Writes (spelled false w k ks) q r → Writes (cond (is_range k) (separators_of ks ++ 41 ∷ 36 ∷ []) []) r t → b ≡ is_step k → Left (body_of 0 b next) whole p t
+body_more {whole} {p} {q} {r} {t} w b k ws ks next e o n l f g s =
+    subst (λ b. Left (body_of 0 b next) whole p t) (sym s) (subst (λ l. Left (body_of 0 (is_step k) l) whole p t) (sym n)
+    (one_less (subst (λ l. Left l whole p r) (rest_parts k ks (is_range k) refl)
+    (one_less (subst (λ t. Left t whole p q) (ap (body_of 0 w) e ∙ ap (λ b. cond b [] (spelled false w k ks ++ rest k ks)) (sym o)) l) f)) g))
+
+-- ---- fewer commands are left
+past-shorter : (ks : List Command) → length (past ks) ≤ length ks
+past-shorter [] = omega arith
+past-shorter (k ∷ ks) = go (is_end k) (past-shorter ks)
+  where
+    go : (b : Bool) → length (past ks) ≤ length ks → length (cond b ks (past ks)) ≤ suc (length ks)
+    go true h = omega arith
+    go false h = omega arith
+
+pub fewer : (k : Command) (ws ks next : List Command) → ws ≡ k ∷ ks → next ≡ cond (is_range k) (past (past (past ks))) ks → length next < length ws
+fewer k ws ks next e n = rw (e, n) (go (is_range k))
+  where
+    go : (b : Bool) → length (cond b (past (past (past ks))) ks) < suc (length ks)
+    go true = omega (arith, past-shorter ks, past-shorter (past ks), past-shorter (past (past ks)))
+    go false = omega arith
 
 -- ---- how a run begins
 text_begins : (n : Bool) (b : ℕ) (t : List ℕ) → (eqb b 36 ≡ begins 36 (texted n b ++ t)) × (false ≡ empty (texted n b ++ t))
@@ -108,15 +136,14 @@ ends_last [] s = refl
 ends_last (c ∷ []) s = refl
 ends_last (c ∷ d ∷ w) s = ends_last (d ∷ w) (ink c s)
 
-pub around_written : (l r : ℕ) (ks : List Command) (w : List ℕ) (s₀ s₁ s₂ s₃ : State) → Runs ks w
-    → s₁ ≡ inks (marked (not (eqb l 0) || (of_first is_mark ks || (bare_run ks && not (eqb r 0)))) l) s₀ → s₂ ≡ inks w s₁
-    → s₃ ≡ inks (marked (not (eqb r 0) || (not (bare_run ks) && eqb s₂.last 36)) r) s₂ → s₃ ≡ inks (around l r w) s₀
-around_written l r ks w s₀ s₁ s₂ s₃ h e f g =
+pub around_written : {a b c d : Pen} (l r : ℕ) (ks : List Command) (w : List ℕ) → Runs ks w
+    → Writes (marked (not (eqb l 0) || (of_first is_mark ks || (bare_run ks && not (eqb r 0)))) l) a b → Writes w b c
+    → Writes (marked (not (eqb r 0) || (not (bare_run ks) && eqb c.last 36)) r) c d → Writes (around l r w) a d
+around_written {a} {b} {c} {d} l r ks w h e f g =
     let p : (not (eqb l 0) || (of_first is_mark ks || (bare_run ks && not (eqb r 0)))) ≡ prefixed l r w = λ i. not (eqb l 0) || (h.mark i || (h.none i && not (eqb r 0))) in
-    let q : (not (bare_run ks) && eqb s₂.last 36) ≡ ends 36 w = (λ i. not (h.none i) && eqb (f i).last 36) ∙ ends_last w s₁ in
-    then (marked (prefixed l r w) l) (w ++ marked (suffixed r w) r) s₀ s₁ s₃ (e ∙ ap (λ b. inks (marked b l) s₀) p)
-    (then w (marked (suffixed r w) r) s₁ s₂ s₃ f (g ∙ ap (λ b. inks (marked (not (eqb r 0) || b) r) s₂) q))
+    let q : (not (bare_run ks) && eqb c.last 36) ≡ ends 36 w = (λ i. not (h.none i) && eqb (f.wrote i).last 36) ∙ ends_last w (held b) in
+    then (subst (λ t. Writes (marked t l) a b) p e) (then f (subst (λ t. Writes (marked (not (eqb r 0) || t) r) c d) q g))
 
 -- ---- the separators of a repeat
-pub separators_written : (xs ys zs : List Command) (s₀ s₁ s₂ : State) → ys ≡ past xs → zs ≡ past ys → s₁ ≡ inks (three_of xs ys zs) s₀ → s₂ ≡ inks (41 ∷ 36 ∷ []) s₁ → s₂ ≡ inks (separators_of xs ++ 41 ∷ 36 ∷ []) s₀
-separators_written xs ys zs s₀ s₁ s₂ e f g h = then (separators_of xs) (41 ∷ 36 ∷ []) s₀ s₁ s₂ (g ∙ (λ i. inks (three_of xs (e i) ((f ∙ ap past e) i)) s₀)) h
+pub separators_written : {a b c : Pen} (xs ys zs : List Command) → ys ≡ past xs → zs ≡ past ys → Writes (three_of xs ys zs) a b → Writes (41 ∷ 36 ∷ []) b c → Writes (separators_of xs ++ 41 ∷ 36 ∷ []) a c
+separators_written {a} {b} xs ys zs e f g h = then (subst (λ l. Writes l a b) (λ i. three_of xs (e i) ((f ∙ ap past e) i)) g) h

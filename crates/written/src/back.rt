@@ -1,4 +1,4 @@
-ghost use Rattle.std.specs.Prelude.{◌≡◌, true, [], take, is_some, IfOk};
+ghost use Rattle.std.specs.Prelude.{◌≡◌, true, take, is_some, IfOk};
 ghost use Rattle.codes.specs.Acceptable.{decode, Coding};
 ghost use Rattle.codes.specs.Calls.{filled, after, written_back};
 ghost use Rattle.codes.specs.declared.error.CodeError.TheVariants.{BufferTooShort};
@@ -10,14 +10,21 @@ use crate::pen::Pen;
 use crate::walk::put_template;
 use codes::CodeError;
 use decode::check_code;
+use wire::Commands;
 
-// How many bytes are written for a code.
-fn count(code: &[u8]) -> usize
-    ensures { result ≡ (inks (template_of (ahead code.now 0)) (fresh [])).at }
+// A code and a buffer are what callers have; the pen and the cursor made of them here go to all the writers below.
+
+// Writes the template for a code, as far as the buffer goes, and answers how many bytes it has.
+fn put_code(code: &[u8], out: &mut [u8]) -> usize
+    ensures count { result ≡ (inks (template_of (ahead code.now 0)) (fresh out.old)).at }
+    ensures buffer { out.new ≡ (inks (template_of (ahead code.now 0)) (fresh out.old)).buffer }
 {
-    let mut none = [0u8; 0];
-    let mut pen = Pen { at: 0, last: 0 };
-    put_template(code, 0, &mut none, &mut pen);
+    let mut pen = Pen {
+        out,
+        at: 0,
+        last: 0,
+    };
+    put_template(&mut pen, Commands::of(code));
     pen.at
 }
 
@@ -27,23 +34,12 @@ fn put_back(code: &[u8], out: &mut [u8]) -> Result<usize, CodeError>
     ensures answer { result ≡ filled BufferTooShort (written_back code.now) out.old }
     ensures buffer { out.new ≡ after (written_back code.now) out.old }
 {
-    let needed = count(code);
+    let needed = put_code(code, &mut []);
     if needed > out.len() {
         return Err(CodeError::BufferTooShort);
     }
-    let mut pen = Pen { at: 0, last: 0 };
-    put_template(code, 0, out, &mut pen);
+    put_code(code, out);
     Ok(needed)
-}
-
-fn put_checked(code: &[u8], out: &mut [u8]) -> Result<usize, CodeError>
-    ensures answer { result ≡ filled BufferTooShort (written_back code.now) out.old }
-    ensures buffer { out.new ≡ after (written_back code.now) out.old }
-{
-    match check_code(code) {
-        Ok(_) => put_back(code, out),
-        Err(e) => Err(e),
-    }
 }
 
 // Writes the template that a code stands for, from the start of `out`, and answers how many bytes it has. Bytes that are no code are refused
@@ -53,5 +49,6 @@ pub fn write_back(code: &[u8], out: &mut [u8]) -> Result<usize, CodeError>
     ensures buffer { out.new ≡ after (written_back code.now) out.old }
     ensures again { IfOk result (λ n. Coding (take n out.new) code.now) }
 {
-    put_checked(code, out)
+    check_code(code)?;
+    put_back(code, out)
 }

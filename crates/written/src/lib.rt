@@ -3,7 +3,6 @@
 
 mod back;
 mod commands;
-mod decimals;
 mod parts;
 mod pen;
 mod walk;

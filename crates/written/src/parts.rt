@@ -1,194 +1,145 @@
-ghost use Rattle.std.specs.Prelude.{◌≡◌, not, ◌&&◌, ◌||◌, [], ◌∷◌, ◌++◌, ◌==◌};
+ghost use Rattle.std.specs.Prelude.{◌≡◌, [], ◌∷◌, ◌++◌};
 ghost use Rattle.codes.specs.Written.{marked};
 ghost use Rattle.grammar.specs.Numbers.{numeral};
-ghost use Rattle.wire.specs.Ahead.{ahead};
-ghost use Rattle.written.specs.Pens.{held, inks};
+ghost use Rattle.wire.specs.Cursor.{ahead_of};
+ghost use Rattle.written.specs.Pens.{Writes};
 ghost use Rattle.written.specs.Spelled.{bars, texted, indexed, paired, powered, bracket_of, opened, spelled};
 
 use crate::commands::is_step;
-use crate::decimals::put_numeral;
-use crate::pen::{Pen, put, put_three, put_two};
+use crate::pen::Pen;
 use grammar::ChildIndex;
-use wire::{Command, is_range, next_at};
-
-fn is_doubled(b: u8, inside: bool) -> bool
-    ensures { result ≡ (b == 36 || (inside && b == 124)) }
-{
-    b == 36 || (inside && b == 124)
-}
+use wire::{Command, Commands};
 
 // Writes a byte of a text, twice where it is a mark.
-fn put_text(out: &mut [u8], pen: &mut Pen, b: u8, inside: bool)
-    ensures { held out.new pen.new ≡ inks (texted inside b) (held out.old pen.old) }
+fn put_text(pen: &mut Pen, b: u8, inside: bool)
+    ensures { Writes (texted inside b) pen.old pen.new }
 {
-    if is_doubled(b, inside) {
-        put_two(out, pen, b, b);
-    } else {
-        put(out, pen, b);
+    if b == b'$' || inside && b == b'|' {
+        pen.put(b);
     }
+    pen.put(b);
 }
 
-fn put_bar(out: &mut [u8], pen: &mut Pen, inside: bool)
-    ensures { held out.new pen.new ≡ inks (bars inside) (held out.old pen.old) }
+fn put_bar(pen: &mut Pen, inside: bool)
+    ensures { Writes (bars inside) pen.old pen.new }
 {
     if inside {
-        put_two(out, pen, 124, 124);
-    } else {
-        put(out, pen, 124);
+        pen.put(b'|');
     }
+    pen.put(b'|');
 }
 
-fn put_index(out: &mut [u8], pen: &mut Pen, index: ChildIndex)
-    ensures { held out.new pen.new ≡ inks (indexed index) (held out.old pen.old) }
+fn put_index(pen: &mut Pen, index: ChildIndex)
+    ensures { Writes (indexed index) pen.old pen.new }
 {
-    put_numeral(out, pen, index.0.cast_unsigned());
+    pen.put_numeral(index.bits());
 }
 
-fn both_zero(a: u32, b: u32) -> bool
-    ensures { result ≡ (a == 0 && b == 0) }
-{
-    a == 0 && b == 0
-}
+// Powers come as the words of a command, as they stand in a code, and are written one by one.
 
 // Writes the powers of a child.
-fn put_pair(out: &mut [u8], pen: &mut Pen, left: u32, right: u32, inside: bool)
-    ensures { held out.new pen.new ≡ inks (paired inside left right) (held out.old pen.old) }
+fn put_pair(pen: &mut Pen, left: u32, right: u32, inside: bool)
+    ensures { Writes (paired inside left right) pen.old pen.new }
 {
-    if both_zero(left, right) {
+    if left == 0 && right == 0 {
         return;
     }
-    put_bar(out, pen, inside);
-    put_numeral(out, pen, left);
-    put(out, pen, 44);
-    put_numeral(out, pen, right);
-}
-
-fn all_zero(a: u32, b: u32, c: u32, d: u32) -> bool
-    ensures { result ≡ (a == 0 && (b == 0 && (c == 0 && d == 0))) }
-{
-    a == 0 && (b == 0 && (c == 0 && d == 0))
+    put_bar(pen, inside);
+    pen.put_numeral(left);
+    pen.put(b',');
+    pen.put_numeral(right);
 }
 
 // Writes the powers of a repeat.
-fn put_powers(
-    out: &mut [u8],
-    pen: &mut Pen,
-    left: u32,
-    middle_left: u32,
-    middle_right: u32,
-    right: u32,
-)
-    ensures { held out.new pen.new ≡ inks (powered left middle_left middle_right right) (held out.old pen.old) }
+fn put_powers(pen: &mut Pen, left: u32, middle_left: u32, middle_right: u32, right: u32)
+    ensures { Writes (powered left middle_left middle_right right) pen.old pen.new }
 {
-    if all_zero(left, middle_left, middle_right, right) {
+    if left == 0 && middle_left == 0 && middle_right == 0 && right == 0 {
         return;
     }
-    put(out, pen, 124);
-    put_numeral(out, pen, left);
-    put(out, pen, 124);
-    put_numeral(out, pen, middle_left);
-    put(out, pen, 44);
-    put_numeral(out, pen, middle_right);
-    put(out, pen, 124);
-    put_numeral(out, pen, right);
+    pen.put(b'|');
+    pen.put_numeral(left);
+    pen.put(b'|');
+    pen.put_numeral(middle_left);
+    pen.put(b',');
+    pen.put_numeral(middle_right);
+    pen.put(b'|');
+    pen.put_numeral(right);
 }
 
 // The bracket that opens a path: that of what its steps lead to.
-fn bracket(code: &[u8], at: usize) -> u8
-    ensures { result ≡ bracket_of (ahead code.now at) }
+fn bracket(commands: Commands) -> u8
+    ensures { result ≡ bracket_of (ahead_of commands.entry) }
 {
-    let mut place = at;
-    'steps: while let Some((command, next)) = next_at(code, place) {
-        if is_range(command) {
-            return 40;
+    for command in commands {
+        if command.is_range() {
+            return b'(';
         }
         if !is_step(command) {
-            return 91;
+            return b'[';
         }
-        place = next;
     }
-    91
+    b'['
 }
 
-fn put_open(out: &mut [u8], pen: &mut Pen, waits: bool, opening: u8)
-    ensures { held out.new pen.new ≡ inks (opened waits opening) (held out.old pen.old) }
+fn put_open(pen: &mut Pen, waits: bool, opening: u8)
+    ensures { Writes (opened waits opening) pen.old pen.new }
 {
     if !waits {
-        put_three(out, pen, 36, opening, 35);
+        pen.put_all(&[b'$', opening, b'#']);
     }
 }
 
-// Opens the path whose first step stands before `next`.
-fn put_first(code: &[u8], next: usize, waits: bool, out: &mut [u8], pen: &mut Pen)
-    ensures { held out.new pen.new ≡ inks (opened waits (bracket_of (ahead code.now next))) (held out.old pen.old) }
+// Writes a step, whose path leads to what stands first in `commands` behind the other steps.
+fn put_step(pen: &mut Pen, index: ChildIndex, commands: Commands, waits: bool)
+    ensures { Writes (opened waits (bracket_of (ahead_of commands.entry)) ++ (indexed index ++ 58 ∷ [])) pen.old pen.new }
 {
-    if !waits {
-        put_three(out, pen, 36, bracket(code, next), 35);
-    }
+    put_open(pen, waits, bracket(commands));
+    put_index(pen, index);
+    pen.put(b':');
 }
 
-fn put_step(code: &[u8], next: usize, index: ChildIndex, waits: bool, out: &mut [u8], pen: &mut Pen)
-    ensures { held out.new pen.new ≡ inks (opened waits (bracket_of (ahead code.now next)) ++ (indexed index ++ 58 ∷ [])) (held out.old pen.old) }
+fn put_child(pen: &mut Pen, index: ChildIndex, left: u32, right: u32, waits: bool, inside: bool)
+    ensures { Writes (opened waits 91 ++ (indexed index ++ (paired inside left right ++ 93 ∷ 36 ∷ []))) pen.old pen.new }
 {
-    put_first(code, next, waits, out, pen);
-    put_index(out, pen, index);
-    put(out, pen, 58);
+    put_open(pen, waits, b'[');
+    put_index(pen, index);
+    put_pair(pen, left, right, inside);
+    pen.put_all(b"]$");
 }
 
-fn put_child(
-    index: ChildIndex,
-    left: u32,
-    right: u32,
-    waits: bool,
-    inside: bool,
-    out: &mut [u8],
-    pen: &mut Pen,
-)
-    ensures { held out.new pen.new ≡ inks (opened waits 91 ++ (indexed index ++ (paired inside left right ++ 93 ∷ 36 ∷ []))) (held out.old pen.old) }
+fn put_range(pen: &mut Pen, from: ChildIndex, to: ChildIndex, waits: bool)
+    ensures { Writes (opened waits 40 ++ (indexed from ++ (46 ∷ 46 ∷ indexed to))) pen.old pen.new }
 {
-    put_open(out, pen, waits, 91);
-    put_index(out, pen, index);
-    put_pair(out, pen, left, right, inside);
-    put_two(out, pen, 93, 36);
+    put_open(pen, waits, b'(');
+    put_index(pen, from);
+    pen.put_all(b"..");
+    put_index(pen, to);
 }
 
-fn put_range(from: ChildIndex, to: ChildIndex, waits: bool, out: &mut [u8], pen: &mut Pen)
-    ensures { held out.new pen.new ≡ inks (opened waits 40 ++ (indexed from ++ (46 ∷ 46 ∷ indexed to))) (held out.old pen.old) }
+fn put_capture(pen: &mut Pen, number: u32)
+    ensures { Writes (36 ∷ 123 ∷ (numeral number ++ 125 ∷ 36 ∷ [])) pen.old pen.new }
 {
-    put_open(out, pen, waits, 40);
-    put_index(out, pen, from);
-    put_two(out, pen, 46, 46);
-    put_index(out, pen, to);
+    pen.put_all(b"${");
+    pen.put_numeral(number);
+    pen.put_all(b"}$");
 }
 
-fn put_capture(out: &mut [u8], pen: &mut Pen, number: u32)
-    ensures { held out.new pen.new ≡ inks (36 ∷ 123 ∷ (numeral number ++ 125 ∷ 36 ∷ [])) (held out.old pen.old) }
-{
-    put_two(out, pen, 36, 123);
-    put_numeral(out, pen, number);
-    put_two(out, pen, 125, 36);
-}
-
-// Writes what stands for a command, of a range up to its separators. `waits`: steps stand right before it.
+// Writes what stands for a command, of a range up to its separators. `commands`: those behind it. `waits`: steps stand right before it.
 pub(crate) fn put_command(
-    code: &[u8],
-    next: usize,
+    pen: &mut Pen,
     command: Command,
+    commands: Commands,
     waits: bool,
     inside: bool,
-    out: &mut [u8],
-    pen: &mut Pen,
 )
-    ensures { held out.new pen.new ≡ inks (spelled inside waits command (ahead code.now next)) (held out.old pen.old) }
+    ensures { Writes (spelled inside waits command (ahead_of commands.entry)) pen.old pen.new }
 {
     match command {
-        Command::End => {}
-        Command::Power { left: _, right: _ } => {}
-        Command::Byte(b) => put_text(out, pen, b, inside),
-        Command::Step(index) => put_step(code, next, index, waits, out, pen),
-        Command::Child { index, left, right } => put_child(
-            index, left, right, waits, inside, out, pen,
-        ),
+        Command::End | Command::Power { .. } => {}
+        Command::Byte(b) => put_text(pen, b, inside),
+        Command::Step(index) => put_step(pen, index, commands, waits),
+        Command::Child { index, left, right } => put_child(pen, index, left, right, waits, inside),
         Command::Range {
             from,
             to,
@@ -197,20 +148,20 @@ pub(crate) fn put_command(
             middle_right,
             right,
         } => {
-            put_range(from, to, waits, out, pen);
-            put_powers(out, pen, left, middle_left, middle_right, right);
+            put_range(pen, from, to, waits);
+            put_powers(pen, left, middle_left, middle_right, right);
         }
-        Command::Capture(number) => put_capture(out, pen, number),
+        Command::Capture(number) => put_capture(pen, number),
     }
 }
 
 // Writes a power between `$`, where it stands.
-pub(crate) fn put_marked(out: &mut [u8], pen: &mut Pen, stands: bool, power: u32)
-    ensures { held out.new pen.new ≡ inks (marked stands power) (held out.old pen.old) }
+pub(crate) fn put_marked(pen: &mut Pen, stands: bool, power: u32)
+    ensures { Writes (marked stands power) pen.old pen.new }
 {
     if stands {
-        put(out, pen, 36);
-        put_numeral(out, pen, power);
-        put(out, pen, 36);
+        pen.put(b'$');
+        pen.put_numeral(power);
+        pen.put(b'$');
     }
 }

@@ -1,212 +1,174 @@
-ghost use Rattle.std.specs.Prelude.{◌≡◌, ◌≤◌, false, not, ◌&&◌, ◌||◌, [], ◌∷◌, ◌++◌, if◌then◌else◌, ◌==◌};
+ghost use Rattle.std.specs.Prelude.{◌≡◌, false, not, ◌&&◌, ◌||◌, [], ◌∷◌, ◌++◌, if◌then◌else◌, ◌==◌};
 ghost use Rattle.codes.specs.Written.{marked, parted};
-ghost use Rattle.wire.specs.Ahead.{ahead, is_range, past};
+ghost use Rattle.wire.specs.Ahead.{is_range, past};
+ghost use Rattle.wire.specs.Cursor.{ahead_of};
 ghost use Rattle.written.specs.Ahead.{is_mark, of_first, bare_run};
-ghost use Rattle.written.specs.Pens.{held, inks};
+ghost use Rattle.written.specs.Pens.{Writes};
 ghost use Rattle.written.specs.Spelled.{run_back, separator_of, bare_of, bar_of, three_of, separators_of, body_of, template_of};
 
-use crate::commands::{begins_mark, begins_text, is_bare_run, is_over, is_step, powers_at};
+use crate::commands::{begins_mark, begins_text, is_bare_run, is_over, is_step, powers_first};
 use crate::parts::{put_command, put_marked};
-use crate::pen::{Pen, put, put_three, put_two};
-use wire::{Command, behind, is_range, next_at};
+use crate::pen::Pen;
+use grammar::BindPowerPair;
+use wire::{Command, Commands};
 
-fn is_prefixed(code: &[u8], at: usize, left: u32, right: u32) -> bool
-    ensures { result ≡ (not (left == 0) || (of_first is_mark (ahead code.now at) || (bare_run (ahead code.now at) && not (right == 0)))) }
+fn is_prefixed(run: Commands, powers: BindPowerPair) -> bool
+    ensures { result ≡ (not (powers.left == 0) || (of_first is_mark (ahead_of run.entry) || (bare_run (ahead_of run.entry) && not (powers.right == 0)))) }
 {
-    let begins = begins_mark(code, at);
-    let bare = is_bare_run(code, at);
-    left != 0 || (begins || (bare && right != 0))
+    powers.left != 0 || (begins_mark(run) || (is_bare_run(run) && powers.right != 0))
 }
 
 fn is_suffixed(bare: bool, right: u32, last: u8) -> bool
     ensures { result ≡ (not (right == 0) || (not bare && last == 36)) }
 {
-    right != 0 || (!bare && last == 36)
+    right != 0 || (!bare && last == b'$')
 }
 
-// Writes the prefix of the run at `at`, where it has to stand.
-fn put_prefix(code: &[u8], at: usize, left: u32, right: u32, out: &mut [u8], pen: &mut Pen)
-    ensures { held out.new pen.new ≡ inks (marked (not (left == 0) || (of_first is_mark (ahead code.now at) || (bare_run (ahead code.now at) && not (right == 0)))) left) (held out.old pen.old) }
+// Writes the prefix of a run, where it has to stand.
+fn put_prefix(pen: &mut Pen, run: Commands, powers: BindPowerPair)
+    ensures { Writes (marked (not (powers.left == 0) || (of_first is_mark (ahead_of run.entry) || (bare_run (ahead_of run.entry) && not (powers.right == 0)))) powers.left) pen.old pen.new }
 {
-    let stands = is_prefixed(code, at, left, right);
-    put_marked(out, pen, stands, left);
+    put_marked(pen, is_prefixed(run, powers), powers.left);
 }
 
-// Writes the suffix of the run at `at`, which has been written, where it has to stand.
-fn put_suffix(code: &[u8], at: usize, right: u32, out: &mut [u8], pen: &mut Pen)
-    ensures { held out.new pen.new ≡ inks (marked (not (right == 0) || (not (bare_run (ahead code.now at)) && pen.old.last == 36)) right) (held out.old pen.old) }
+// Writes the suffix of a run that has been written, where it has to stand.
+fn put_suffix(pen: &mut Pen, run: Commands, right: u32)
+    ensures { Writes (marked (not (right == 0) || (not (bare_run (ahead_of run.entry)) && pen.old.last == 36)) right) pen.old pen.new }
 {
-    let stands = is_suffixed(is_bare_run(code, at), right, pen.last);
-    put_marked(out, pen, stands, right);
+    let stands = is_suffixed(is_bare_run(run), right, pen.last);
+    put_marked(pen, stands, right);
 }
 
 // Writes the run of a separator.
-fn put_run(code: &[u8], at: usize, out: &mut [u8], pen: &mut Pen)
-    ensures { held out.new pen.new ≡ inks (run_back false (ahead code.now at)) (held out.old pen.old) }
+fn put_run(pen: &mut Pen, mut commands: Commands)
+    ensures { Writes (run_back false (ahead_of commands.entry)) pen.old pen.new }
 {
-    let mut place = at;
     let mut waits = false;
-    'run: while let Some((command, next)) = next_at(code, place) {
+    'run: while let Some(command) = commands.next() {
         if is_over(command) {
             return;
         }
-        put_command(code, next, command, waits, true, out, pen);
+        put_command(pen, command, commands, waits, true);
         waits = is_step(command);
-        place = next;
     }
 }
 
-// Writes the separator at `at`.
-fn put_separator(code: &[u8], at: usize, out: &mut [u8], pen: &mut Pen)
-    ensures { held out.new pen.new ≡ inks (separator_of (ahead code.now at)) (held out.old pen.old) }
+// Writes the separator that stands first. A function of this and `put_template` alike, with the writer of the run as a parameter, would take
+// a contract for that writer and two for its callers, and be no plainer.
+fn put_separator(pen: &mut Pen, commands: Commands)
+    ensures { Writes (separator_of (ahead_of commands.entry)) pen.old pen.new }
 {
-    if let Some((left, right, next)) = powers_at(code, at) {
-        put_prefix(code, next, left, right, out, pen);
-        put_run(code, next, out, pen);
-        put_suffix(code, next, right, out, pen);
+    if let Some((powers, run)) = powers_first(commands) {
+        put_prefix(pen, run, powers);
+        put_run(pen, run);
+        put_suffix(pen, run, powers.right);
     }
 }
 
-// Whether the separator at `at` has neither powers nor pieces.
-fn is_bare(code: &[u8], at: usize) -> bool
-    ensures { result ≡ bare_of (ahead code.now at) }
+// Whether the separator that stands first has neither powers nor pieces.
+fn is_bare(commands: Commands) -> bool
+    ensures { result ≡ bare_of (ahead_of commands.entry) }
 {
-    match powers_at(code, at) {
-        Some((left, right, next)) => {
-            let bare = is_bare_run(code, next);
-            left == 0 && (right == 0 && bare)
-        }
-        None => false,
-    }
+    powers_first(commands).is_some_and(|(powers, run)| powers.left == 0
+        && (powers.right == 0 && is_bare_run(run)))
 }
 
-// Whether the separator at `at` begins with a bar.
-fn begins_bar(code: &[u8], at: usize) -> bool
-    ensures { result ≡ bar_of (ahead code.now at) }
+// Whether the separator that stands first begins with a bar.
+fn begins_bar(commands: Commands) -> bool
+    ensures { result ≡ bar_of (ahead_of commands.entry) }
 {
-    match powers_at(code, at) {
-        Some((left, _, next)) => {
-            let bar = begins_text(code, next, 124);
-            left == 0 && bar
-        }
-        None => false,
-    }
+    powers_first(commands).is_some_and(|(powers, run)| powers.left == 0 && begins_text(run, b'|'))
 }
 
-fn are_bare(code: &[u8], first: usize, third: usize) -> bool
-    ensures { result ≡ (bare_of (ahead code.now first) && bare_of (ahead code.now third)) }
+// Whether `$0$` has to stand before the middle separator, behind its bar.
+fn is_parted(commands: Commands) -> bool
+    ensures { result ≡ (bare_of (ahead_of commands.entry) || bar_of (ahead_of commands.entry)) }
 {
-    let a = is_bare(code, first);
-    let b = is_bare(code, third);
-    a && b
+    is_bare(commands) || begins_bar(commands)
 }
 
-fn is_parted(code: &[u8], at: usize) -> bool
-    ensures { result ≡ (bare_of (ahead code.now at) || bar_of (ahead code.now at)) }
+// Writes the separator that stands first behind a bar, with `$0$` before it where that has to stand.
+fn put_parted(pen: &mut Pen, commands: Commands, stands: bool)
+    ensures { Writes (124 ∷ parted stands (separator_of (ahead_of commands.entry))) pen.old pen.new }
 {
-    let bare = is_bare(code, at);
-    let bar = begins_bar(code, at);
-    bare || bar
-}
-
-fn put_zero(out: &mut [u8], pen: &mut Pen, stands: bool)
-    ensures { held out.new pen.new ≡ inks (if stands then 36 ∷ 48 ∷ 36 ∷ [] else []) (held out.old pen.old) }
-{
+    pen.put(b'|');
     if stands {
-        put_three(out, pen, 36, 48, 36);
+        pen.put_all(b"$0$");
     }
-}
-
-// Writes the separator at `at` behind a bar, with `$0$` before it where that has to stand.
-fn put_parted(code: &[u8], at: usize, stands: bool, out: &mut [u8], pen: &mut Pen)
-    ensures { held out.new pen.new ≡ inks (124 ∷ parted stands (separator_of (ahead code.now at))) (held out.old pen.old) }
-{
-    put(out, pen, 124);
-    put_zero(out, pen, stands);
-    put_separator(code, at, out, pen);
+    put_separator(pen, commands);
 }
 
 // Writes the middle separator alone.
-fn put_middle(code: &[u8], at: usize, out: &mut [u8], pen: &mut Pen)
-    ensures { held out.new pen.new ≡ inks (if bare_of (ahead code.now at) then [] else 36 ∷ separator_of (ahead code.now at)) (held out.old pen.old) }
+fn put_middle(pen: &mut Pen, commands: Commands)
+    ensures { Writes (if bare_of (ahead_of commands.entry) then [] else 36 ∷ separator_of (ahead_of commands.entry)) pen.old pen.new }
 {
-    if is_bare(code, at) {
+    if !is_bare(commands) {
+        pen.put(b'$');
+        put_separator(pen, commands);
+    }
+}
+
+// Writes the three separators of a repeat.
+fn put_three_separators(pen: &mut Pen, first: Commands, second: Commands, third: Commands)
+    ensures { Writes (three_of (ahead_of first.entry) (ahead_of second.entry) (ahead_of third.entry)) pen.old pen.new }
+{
+    if is_bare(first) && is_bare(third) {
+        put_middle(pen, second);
         return;
     }
-    put(out, pen, 36);
-    put_separator(code, at, out, pen);
+    pen.put(b'$');
+    put_separator(pen, first);
+    put_parted(pen, second, is_parted(second));
+    put_parted(pen, third, begins_bar(third));
 }
 
-// Writes the three separators of a repeat by their places.
-fn put_three_separators(
-    code: &[u8],
-    first: usize,
-    second: usize,
-    third: usize,
-    out: &mut [u8],
-    pen: &mut Pen,
-)
-    ensures { held out.new pen.new ≡ inks (three_of (ahead code.now first) (ahead code.now second) (ahead code.now third)) (held out.old pen.old) }
+// Writes what stands for a repeat behind its powers, and goes on behind its separators.
+fn put_separators(pen: &mut Pen, commands: &mut Commands)
+    ensures wrote { Writes (separators_of (ahead_of commands.old) ++ 41 ∷ 36 ∷ []) pen.old pen.new }
+    ensures passed { ahead_of commands.new ≡ past (past (past (ahead_of commands.old))) }
 {
-    if are_bare(code, first, third) {
-        put_middle(code, second, out, pen);
-        return;
-    }
-    put(out, pen, 36);
-    put_separator(code, first, out, pen);
-    put_parted(code, second, is_parted(code, second), out, pen);
-    put_parted(code, third, begins_bar(code, third), out, pen);
+    let first = *commands;
+    commands.pass();
+    let second = *commands;
+    commands.pass();
+    put_three_separators(pen, first, second, *commands);
+    pen.put_all(b")$");
+    commands.pass();
 }
 
-// Writes what stands for a repeat behind its powers, and answers the place behind its separators.
-fn put_separators(code: &[u8], at: usize, out: &mut [u8], pen: &mut Pen) -> usize
-    ensures wrote { held out.new pen.new ≡ inks (separators_of (ahead code.now at) ++ 41 ∷ 36 ∷ []) (held out.old pen.old) }
-    ensures place { ahead code.now result ≡ past (past (past (ahead code.now at))) }
-    ensures forth { at ≤ result }
+// Writes what a command has behind it, the separators of a range, and goes on behind that.
+fn put_behind(pen: &mut Pen, command: Command, commands: &mut Commands)
+    ensures wrote { Writes (if is_range command then separators_of (ahead_of commands.old) ++ 41 ∷ 36 ∷ [] else []) pen.old pen.new }
+    ensures passed { ahead_of commands.new ≡ (if is_range command then past (past (past (ahead_of commands.old))) else ahead_of commands.old) }
 {
-    let second = behind(code, at);
-    let third = behind(code, second);
-    put_three_separators(code, at, second, third, out, pen);
-    put_two(out, pen, 41, 36);
-    behind(code, third)
-}
-
-// Writes what a command has behind it, the separators of a range, and answers the place of the next command.
-fn put_behind(code: &[u8], next: usize, command: Command, out: &mut [u8], pen: &mut Pen) -> usize
-    ensures wrote { held out.new pen.new ≡ inks (if is_range command then separators_of (ahead code.now next) ++ 41 ∷ 36 ∷ [] else []) (held out.old pen.old) }
-    ensures place { ahead code.now result ≡ (if is_range command then past (past (past (ahead code.now next))) else ahead code.now next) }
-    ensures forth { next ≤ result }
-{
-    if is_range(command) {
-        put_separators(code, next, out, pen)
-    } else {
-        next
+    if command.is_range() {
+        put_separators(pen, commands);
     }
 }
 
-// Writes the run of a template.
-fn put_body(code: &[u8], at: usize, out: &mut [u8], pen: &mut Pen)
-    ensures { held out.new pen.new ≡ inks (body_of 0 false (ahead code.now at)) (held out.old pen.old) }
+// Writes the run of a template. `put_run` stands below it, since the separators of a range are written here: both as one function would call
+// itself.
+fn put_body(pen: &mut Pen, mut commands: Commands)
+    ensures { Writes (body_of 0 false (ahead_of commands.entry)) pen.old pen.new }
 {
-    let mut place = at;
     let mut waits = false;
-    'body: while let Some((command, next)) = next_at(code, place) {
+    'body: while let Some(command) = commands.next() {
         if is_over(command) {
             return;
         }
-        put_command(code, next, command, waits, false, out, pen);
+        put_command(pen, command, commands, waits, false);
         waits = is_step(command);
-        place = put_behind(code, next, command, out, pen);
+        put_behind(pen, command, &mut commands);
     }
 }
 
-// Writes the template whose code stands at `at`.
-pub(crate) fn put_template(code: &[u8], at: usize, out: &mut [u8], pen: &mut Pen)
-    ensures { held out.new pen.new ≡ inks (template_of (ahead code.now at)) (held out.old pen.old) }
+// Writes the template whose code these commands are.
+pub(crate) fn put_template(pen: &mut Pen, commands: Commands)
+    ensures { Writes (template_of (ahead_of commands.entry)) pen.old pen.new }
 {
-    if let Some((left, right, next)) = powers_at(code, at) {
-        put_prefix(code, next, left, right, out, pen);
-        put_body(code, next, out, pen);
-        put_suffix(code, next, right, out, pen);
+    if let Some((powers, run)) = powers_first(commands) {
+        put_prefix(pen, run, powers);
+        put_body(pen, run);
+        put_suffix(pen, run, powers.right);
     }
 }

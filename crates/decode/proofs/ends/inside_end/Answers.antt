@@ -1,46 +1,23 @@
-use Rattle.std.proofs.Common.{Bool, cond, drop, Some, None, sym, ap, ◌∙◌, arith}
-use Rattle.decode.specs.Behind.{rest_inside}
-use Rattle.decode.proofs.Places.{inside_none, inside_ends, inside_goes}
+use Rattle.std.proofs.Common.{Some, None, ap, ◌∙◌, arith}
+use Rattle.wire.specs.Cursor.{bytes_of}
+use Rattle.decode.specs.Behind.{left_of, rest_inside}
+use Rattle.decode.proofs.Firsts.{inside_ends, inside_goes}
 use Rattle.decode.proofs.ends.inside_end.Goals as goal
 
-pub returns-in_err-command : goal.returns-in_err-command
-returns-in_err-command c =
-    rw c.from_residual.ensures
-    (record { within = omega arith; further = omega arith; value = inside_none c.args.code.now c.run.at c.args.suffixed c.run.walk c.run.closed c.in_err-command.ensures.value ∙ c.run.invariant.2 })
+pub returns-then-is_end-clause-value : goal.returns-then-is_end-clause-value
+returns-then-is_end-clause-value c =
+    inside_ends (bytes_of c.run.commands) c.args.suffixed c.run.walk c.run.closed c.in-Some.command c.read.new.self c.may_end.result c.then_some.result c.in-Some.ensures.bytes c.if-is_end.ensures c.may_end.ensures c.then_some.ensures
+    ∙ c.run.invariant.1
 
-pub returns-then-may_end : goal.returns-then-may_end
-returns-then-may_end c = record {
-  within = omega (arith, c.in_ok-command.ensures.within);
-  further = omega (arith, c.in_ok-command.ensures.within);
-  value =
-      ap (λ (b : Bool). cond b (Some (drop c.in_ok-command.next c.args.code.now)) None) c.if-may_end.ensures
-      ∙ inside_ends c.args.code.now c.run.at c.args.suffixed c.run.walk c.run.closed c.in_ok-command.next (ap (λ k. Some (k, c.in_ok-command.next)) (sym c.in-End.is) ∙ c.in_ok-command.ensures.value) c.run.invariant.1
-      ∙ c.run.invariant.2;
-}
-
-pub returns-in-End : goal.returns-in-End
-returns-in-End c = record {
-  within = omega arith;
-  further = omega arith;
-  value =
-      ap (λ (b : Bool). cond b (Some (drop c.in_ok-command.next c.args.code.now)) None) c.if-may_end.ensures
-      ∙ inside_ends c.args.code.now c.run.at c.args.suffixed c.run.walk c.run.closed c.in_ok-command.next (ap (λ k. Some (k, c.in_ok-command.next)) (sym c.in-End.is) ∙ c.in_ok-command.ensures.value) c.run.invariant.1
-      ∙ c.run.invariant.2;
-}
-
-pub returns-in_err-walk : goal.returns-in_err-walk
-returns-in_err-walk c =
-    rw c.from_residual-in_err-walk.ensures
-    (record {
-      within = omega arith;
-      further = omega arith;
-      value = inside_goes c.args.code.now c.run.at c.args.suffixed c.run.walk c.run.closed c.in_ok-command.command c.in_ok-command.next None c.in_ok-command.ensures.value c.in_default.not-End c.in_err-walk.ensures.value ∙ c.run.invariant.2;
-    })
+pub returns-in_err-walk-clause-value : goal.returns-in_err-walk-clause-value
+returns-in_err-walk-clause-value c =
+    ap left_of c.from_residual.ensures
+    ∙ inside_goes (bytes_of c.run.commands) c.args.suffixed c.run.walk c.run.closed c.in-Some.command (bytes_of c.read.new.self) None c.in-Some.ensures.bytes c.if-is_end.ensures c.in_err-walk.ensures
+    ∙ c.run.invariant.1
 
 pub run-preserved : goal.run-preserved
 run-preserved c = (
-  omega (arith, c.in_ok-command.ensures.within),
-  c.in_ok-walk.ensures.few,
-  ap (λ b. rest_inside c.args.suffixed c.in_ok-walk.walk b (drop c.in_ok-command.next c.args.code.now)) c.is_closing-closed.ensures
-      ∙ inside_goes c.args.code.now c.run.at c.args.suffixed c.run.walk c.run.closed c.in_ok-command.command c.in_ok-command.next (Some c.in_ok-walk.walk) c.in_ok-command.ensures.value c.in_default.not-End c.in_ok-walk.ensures.value ∙ c.run.invariant.2,
+  omega (arith, c.run.invariant.0, c.in-Some.ensures.shorter),
+  ap (λ b. rest_inside c.args.suffixed c.in_ok-walk.walk b (bytes_of c.read.new.self)) c.is_closing-closed.ensures
+      ∙ inside_goes (bytes_of c.run.commands) c.args.suffixed c.run.walk c.run.closed c.in-Some.command (bytes_of c.read.new.self) (Some c.in_ok-walk.walk) c.in-Some.ensures.bytes c.if-is_end.ensures c.in_ok-walk.ensures ∙ c.run.invariant.1,
 )

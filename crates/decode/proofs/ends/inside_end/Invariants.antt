@@ -1,10 +1,13 @@
-use Rattle.std.proofs.Common.{◌≡◌, ◌-◌, ◌≤◌, false, length, drop}
-use Rattle.grammar.specs.Limits.{piece_allowance}
-use Rattle.decode.specs.Behind.{rest_inside, start}
+use Rattle.std.proofs.Common.{◌≡◌, ◌≤◌, false, length}
+use Rattle.wire.specs.Cursor.{bytes_of}
+use Rattle.decode.specs.Behind.{rest_inside}
+use Rattle.decode.specs.Walking.{start}
 use Rattle.decode.proofs.ends.inside_end.Given as goal
 
 abbrev pub invariant-run : goal.invariant-run
-invariant-run l = (l.place ≤ l.at) × (l.walk.pieces ≤ piece_allowance) × (rest_inside l.suffixed l.walk l.closed (drop l.at l.code) ≡ rest_inside l.suffixed start false (drop l.place l.code))
+invariant-run l =
+    (length (bytes_of l.commands) ≤ length (bytes_of l.initial.commands))
+    × (rest_inside l.suffixed l.walk l.closed (bytes_of l.commands) ≡ rest_inside l.suffixed start false (bytes_of l.initial.commands))
 
 abbrev pub decreases-run : goal.decreases-run
-decreases-run l = length l.code - l.at
+decreases-run l = length (bytes_of l.commands)

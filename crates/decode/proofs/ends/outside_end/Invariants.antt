@@ -1,10 +1,11 @@
-use Rattle.std.proofs.Common.{◌≡◌, ◌-◌, ◌≤◌, length, drop}
-use Rattle.grammar.specs.Limits.{piece_allowance}
-use Rattle.decode.specs.Behind.{rest_outside, start}
+use Rattle.std.proofs.Common.{◌≡◌, length}
+use Rattle.wire.specs.Cursor.{bytes_of}
+use Rattle.decode.specs.Behind.{rest_outside}
+use Rattle.decode.specs.Walking.{start}
 use Rattle.decode.proofs.ends.outside_end.Given as goal
 
 abbrev pub invariant-run : goal.invariant-run
-invariant-run l = (l.place ≤ l.at) × (l.walk.pieces ≤ piece_allowance) × (rest_outside l.walk (drop l.at l.code) ≡ rest_outside start (drop l.place l.code))
+invariant-run l = rest_outside l.walk (bytes_of l.commands) ≡ rest_outside start (bytes_of l.initial.commands)
 
 abbrev pub decreases-run : goal.decreases-run
-decreases-run l = length l.code - l.at
+decreases-run l = length (bytes_of l.commands)

@@ -1,8 +1,9 @@
-use Rattle.encode.proofs.Strokes.{then, full}
+use Rattle.pen.proofs.Pages.{then, full}
+use Rattle.encode.specs.Shapes.{point_code}
 use Rattle.encode.proofs.pieces.child.Goals as goal
 
-pub returns-in_err-behind : goal.returns-in_err-behind
-returns-in_err-behind c = rw c.from_residual.ensures (full _ c.in_err-behind.ensures)
+pub returns-in_err-steps : goal.returns-in_err-steps
+returns-in_err-steps c = full (point_code c.args.index c.args.powers) c.in_err-steps.ensures c.from_residual.ensures.1
 
 pub returns : goal.returns
-returns c = then c.in_ok-behind.ensures c.point.ensures
+returns c = rw (← c.bits.ensures) (then c.in_ok-steps.ensures c.command.ensures)

@@ -1,11 +1,13 @@
-use Rattle.encode.proofs.Strokes.{then, full}
+use Rattle.std.proofs.Common.{◌++◌}
+use Rattle.encode.specs.Shapes.{separator_code}
+use Rattle.pen.proofs.Pages.{then, full}
 use Rattle.encode.proofs.separators.separators.Goals as goal
 
-pub returns-in_err-behind_left : goal.returns-in_err-behind_left
-returns-in_err-behind_left c = rw c.from_residual.ensures (full _ c.in_err-behind_left.ensures)
+pub returns-in_err-separator : goal.returns-in_err-separator
+returns-in_err-separator c = full (separator_code c.args.middle.now ++ separator_code c.args.right.now) c.in_err-separator.ensures c.from_residual.ensures.1
 
-pub returns-in_err-behind_middle : goal.returns-in_err-behind_middle
-returns-in_err-behind_middle c = rw c.from_residual-in_err-behind_middle.ensures (then c.in_ok-behind_left.ensures (full _ c.in_err-behind_middle.ensures))
+pub returns-in_err-separator-2 : goal.returns-in_err-separator-2
+returns-in_err-separator-2 c = then c.in_ok-separator.ensures (full (separator_code c.args.right.now) c.in_err-separator-2.ensures c.from_residual-in_err-separator-2.ensures.1)
 
 pub returns : goal.returns
-returns c = then c.in_ok-behind_left.ensures (then c.in_ok-behind_middle.ensures c.separator-3.ensures)
+returns c = then c.in_ok-separator.ensures (then c.in_ok-separator-2.ensures c.separator-3.ensures)

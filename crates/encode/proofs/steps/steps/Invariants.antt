@@ -1,11 +1,11 @@
-use Rattle.std.proofs.Common.{◌-◌, length}
+use Rattle.std.proofs.Common.{map}
+use Rattle.controls.specs.Steps.{steps_left}
+use Rattle.grammar.specs.Numbers.{bits}
+use Rattle.grammar.specs.declared.defns.ChildIndex.{ChildIndex}
 use Rattle.grammar.specs.Paths.{steps_of}
 use Rattle.encode.specs.Shapes.{paces}
-use Rattle.encode.proofs.PathWalk.{Trail}
+use Rattle.pen.proofs.Pages.{Goes}
 use Rattle.encode.proofs.steps.steps.Given as goal
 
 abbrev pub invariant-loop-index : goal.invariant-loop-index
-invariant-loop-index l = Trail l.path l.from l.initial.out l.at (paces (steps_of l.path)) l.out l.pen
-
-abbrev pub decreases-loop-index : goal.decreases-loop-index
-decreases-loop-index l = length l.path - l.from
+invariant-loop-index l = (goal.iterator-loop-index).can_next l.index-iterator × (goal.iterator-loop-index).is_finite l.index-iterator × Goes l.fn.pen (paces (steps_of l.fn.path)) l.pen (paces (map (λ (x : ChildIndex). bits x.0) (steps_left l.index-iterator)))

@@ -1,11 +1,8 @@
-use Rattle.std.proofs.Common.{◌-◌, length, drop}
+use Rattle.controls.specs.Halves.{bytes_left}
 use Rattle.grammar.specs.Marks.{halve}
 use Rattle.encode.specs.Shapes.{letters}
-use Rattle.encode.proofs.Strokes.{Goes}
+use Rattle.pen.proofs.Pages.{Goes}
 use Rattle.encode.proofs.texts.text.Given as goal
 
-abbrev pub invariant-loop-i : goal.invariant-loop-i
-invariant-loop-i l = Goes l.initial.out l.at (letters (halve 36 l.typed)) l.out l.pen (letters (halve 36 (drop l.i l.typed)))
-
-abbrev pub decreases-loop-i : goal.decreases-loop-i
-decreases-loop-i l = length l.typed - l.i
+abbrev pub invariant-loop-b : goal.invariant-loop-b
+invariant-loop-b l = (goal.iterator-loop-b).can_next l.b-iterator × (goal.iterator-loop-b).is_finite l.b-iterator × Goes l.fn.pen (letters (halve 36 l.fn.typed)) l.pen (letters (bytes_left l.b-iterator))

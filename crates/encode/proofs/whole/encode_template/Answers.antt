@@ -1,49 +1,28 @@
-use Rattle.std.proofs.Common.{sym, refl, ap, ◌∙◌, arith}
-use Rattle.std.proofs.lemmas.Result.{err_from_is_err_and}
+use Rattle.std.proofs.Common.{ℕ, List, Ok, sym, refl, ap, ◌∙◌}
+use Rattle.std.specs.Option.{ok_or}
 use Rattle.codes.specs.Calls.{filled, after}
 use Rattle.codes.specs.declared.error.CodeError.TheVariants.{BufferTooShort}
 use Rattle.codes.specs.declared.error.EncodeError.TheVariants.{Code}
-use Rattle.encode.proofs.Delivery.{too_long, room_for, not-delivered, all_delivered}
-use Rattle.encode.proofs.Readings.{not-encoded, told}
+use Rattle.encode.proofs.Delivery.{too_long, room_for, refused_so, written_so, delivered_so}
+use Rattle.encode.proofs.Readings.{told}
 use Rattle.encode.proofs.whole.encode_template.Goals as goal
 
-pub returns-in_err-read : goal.returns-in_err-read
-returns-in_err-read c =
-    let p = err_from_is_err_and c.from_residual.result c.from_residual.ensures.1 in
-    let e = not-encoded c.args.template.now _ c.in_err-read.ensures.exact in
-    record { answer = rw (p.1, p.2, e) refl; buffer = rw e refl }
-
 pub write-requires : goal.write-requires
-write-requires c =
-    let t = told c.args.template.now c.in_ok-read.read c.in_ok-read.ensures.exact in
-    record { room = (omega arith, t.short); read = t.walk }
+write-requires c = (told c.args.template.now c.in_ok-read.read c.in_ok-read.ensures.exact).good
 
-pub returns-in_default : goal.returns-in_default
-returns-in_default c =
+pub returns-in_err-or : goal.returns-in_err-or
+returns-in_err-or c =
     let t = told c.args.template.now c.in_ok-read.read c.in_ok-read.ensures.exact in
-    let e = too_long c.args.template.now c.in_ok-read.read.parts _ _ refl t c.in_default.ensures in
-    record { answer = rw e refl; buffer = rw e refl }
-
-pub slice_bounds-deliver-end : goal.slice_bounds-deliver-end
-slice_bounds-deliver-end c =
-    let t = told c.args.template.now c.in_ok-read.read c.in_ok-read.ensures.exact in
-    let r = room_for c.args.template.now c.in_ok-read.read.parts _ _ c.in-Some.size refl t c.in-Some.ensures in
-    omega (arith, r.0)
-
-pub returns-in_default-deliver : goal.returns-in_default-deliver
-returns-in_default-deliver c =
-    let t = told c.args.template.now c.in_ok-read.read c.in_ok-read.ensures.exact in
-    let r = room_for c.args.template.now c.in_ok-read.read.parts _ _ c.in-Some.size refl t c.in-Some.ensures in
-    record {
-      answer = not-delivered _ _ (Code BufferTooShort) c.in_default-deliver.ensures.answer ∙ sym (ap (λ x. filled (Code BufferTooShort) x c.args.out.now) r.1);
-      buffer = c.in_default-deliver.ensures.buffer ∙ sym (ap (λ x. after x c.args.out.now) r.1);
-    }
+    let f = refused_so c.write.result c.in_err-or.field-0.0 (sym c.or.ensures ∙ c.in_err-or.was) c.from_residual-in_err-or.ensures.1 in
+    let e = too_long refl t c.new-pen.ensures.page c.write.ensures f.0 in
+    record { answer = rw e f.1; buffer = rw e refl }
 
 pub returns : goal.returns
 returns c =
     let t = told c.args.template.now c.in_ok-read.read c.in_ok-read.ensures.exact in
-    let r = room_for c.args.template.now c.in_ok-read.read.parts _ _ c.in-Some.size refl t c.in-Some.ensures in
+    let f = written_so c.write.result (sym c.or.ensures ∙ c.in_ok-or.was) in
+    let e = room_for refl t c.new-pen.ensures.page c.write.ensures f ∙ ap (λ (l : List ℕ). Ok l) (sym c.written.ensures) in
     record {
-      answer = all_delivered _ _ _ (Code BufferTooShort) c.in-Some-deliver.ensures.answer ∙ sym (ap (λ x. filled (Code BufferTooShort) x c.args.out.now) r.1);
-      buffer = c.in-Some-deliver.ensures.buffer ∙ sym (ap (λ x. after x c.args.out.now) r.1);
+      answer = c.ok_or.ensures.value ∙ ap (λ o. ok_or o (Code BufferTooShort)) c.deliver.ensures.answer ∙ delivered_so _ _ (Code BufferTooShort) ∙ sym (ap (λ x. filled (Code BufferTooShort) x c.args.out.now) e);
+      buffer = c.deliver.ensures.buffer ∙ sym (ap (λ x. after x c.args.out.now) e);
     }

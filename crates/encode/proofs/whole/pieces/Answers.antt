@@ -1,26 +1,21 @@
-use Rattle.std.proofs.Common.{◌≤◌, length, drop, arith, length-drop}
-use Rattle.formatter.proofs.Outputs.{output_short}
-use Rattle.grammar.specs.Limits.{template_limit}
-use Rattle.encode.specs.Shapes.{shape_code}
-use Rattle.encode.proofs.PieceWalk.{route_begun, route_good, route_more, route_stops, route_ends}
+use Rattle.std.proofs.Common.{ap, ◌∙◌}
+use Rattle.encode.proofs.Routes.{route_begun, route_good, route_more, route_stops, route_ends}
+use Rattle.templates.specs.Outputs.{outputs_left}
 use Rattle.encode.proofs.whole.pieces.Goals as goal
 
 pub loop-typed-init : goal.loop-typed-init
-loop-typed-init c = route_begun shape_code _ _ c.requires.room.1.1 c.requires.read
+loop-typed-init c =
+    let e = ap outputs_left c.into_iter-typed-iterator.ensures.into_iter_gives ∙ c.outputs-typed-items.ensures in
+    (tt, tt, route_begun c.args.pen.now e c.requires)
 
 pub piece-requires : goal.piece-requires
-piece-requires c =
-    let short : length (drop c.loop-typed.place c.args.text.now) ≤ template_limit = omega (arith, length-drop c.loop-typed.place c.args.text.now) in
-    record {
-      room = (omega arith, c.loop-typed.invariant.writes.fits);
-      read = (output_short _ _ c.in-Some.typed _ short c.in-Some.ensures.value, route_good c.loop-typed.invariant _ _ c.in-Some.ensures.value);
-    }
+piece-requires c = route_good c.loop-typed.invariant.2 c.in-Some.ensures.steps
 
-pub returns-in_err-pen : goal.returns-in_err-pen
-returns-in_err-pen c = rw c.from_residual.ensures (route_stops c.loop-typed.invariant _ _ c.in-Some.ensures.value _ c.in_err-pen.ensures)
+pub returns-in_err-piece : goal.returns-in_err-piece
+returns-in_err-piece c = route_stops c.loop-typed.invariant.2 c.in-Some.ensures.steps c.in_err-piece.ensures c.from_residual.ensures.1
 
 pub loop-typed-preserved : goal.loop-typed-preserved
-loop-typed-preserved c = route_more c.loop-typed.invariant _ _ c.in-Some.ensures.value _ _ c.in_ok-pen.ensures
+loop-typed-preserved c = (tt, tt, route_more c.loop-typed.invariant.2 c.in-Some.ensures.steps c.in_ok-piece.ensures)
 
 pub returns : goal.returns
-returns c = route_ends c.loop-typed.invariant c.in_default.ensures.value
+returns c = route_ends c.loop-typed.invariant.2 c.in-None.ensures.steps.0

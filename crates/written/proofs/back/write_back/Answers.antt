@@ -1,8 +1,5 @@
 use Rattle.written.proofs.Whole.{again}
 use Rattle.written.proofs.back.write_back.Goals as goal
 
-pub returns : goal.returns
-returns c =
-    let a = c.put_checked.ensures.answer in
-    let b = c.put_checked.ensures.buffer in
-    record { answer = a; buffer = b; again = again c.args.code.now c.args.out.now c.put_checked.new.out c.put_checked.result (a, b) }
+pub returns-clause-again : goal.returns-clause-again
+returns-clause-again c = again c.args.code.now c.args.out.now c.put_back.new.out c.put_back.result (c.put_back.ensures.answer, c.put_back.ensures.buffer)

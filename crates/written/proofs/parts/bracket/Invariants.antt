@@ -1,10 +1,8 @@
-use Rattle.std.proofs.Common.{◌≡◌, ◌-◌, length}
+use Rattle.std.proofs.Common.{◌≡◌}
+use Rattle.wire.specs.Cursor.{ahead_of}
 use Rattle.written.proofs.parts.bracket.Given as goal
-use Rattle.wire.specs.Ahead.{ahead}
 use Rattle.written.specs.Spelled.{bracket_of}
 
-abbrev pub invariant-steps : goal.invariant-steps
-invariant-steps l = bracket_of (ahead l.code l.place) ≡ bracket_of (ahead l.code l.at)
-
-abbrev pub decreases-steps : goal.decreases-steps
-decreases-steps l = length l.code - l.place
+abbrev pub invariant-loop-command : goal.invariant-loop-command
+invariant-loop-command l =
+    (goal.iterator-loop-command).can_next l.command-iterator × (goal.iterator-loop-command).is_finite l.command-iterator × (bracket_of (ahead_of l.command-iterator) ≡ bracket_of (ahead_of l.commands))

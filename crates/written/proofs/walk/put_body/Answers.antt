@@ -1,11 +1,10 @@
-use Rattle.std.proofs.Common.{sym, ap, ◌∙◌}
-use Rattle.written.proofs.Runs.{body_more}
+use Rattle.wire.specs.Cursor.{ahead_of}
+use Rattle.written.proofs.Runs.{body_more, fewer}
 use Rattle.written.proofs.walk.put_body.Goals as goal
-use Rattle.wire.specs.Ahead.{ahead}
-use Rattle.written.specs.Pens.{held, inks}
-use Rattle.written.specs.Spelled.{body_of}
+
+pub body-smaller : goal.body-smaller
+body-smaller c = fewer c.in-Some.command (ahead_of c.body.commands) (ahead_of c.next.new.self) (ahead_of c.put_behind.new.commands) c.in-Some.ensures.steps c.put_behind.ensures.passed
 
 pub body-preserved : goal.body-preserved
 body-preserved c =
-    ap (λ b. inks (body_of 0 b (ahead c.args.code.now c.put_behind-place.result)) (held c.put_behind-place.new.out c.put_behind-place.new.pen)) c.is_step-waits.ensures
-    ∙ body_more c.body.waits c.in-Some.command (ahead c.args.code.now c.body.place) (ahead c.args.code.now c.in-Some.next) (ahead c.args.code.now c.put_behind-place.result) (held c.body.out c.body.pen) (held c.put_command.new.out c.put_command.new.pen) (held c.put_behind-place.new.out c.put_behind-place.new.pen) _ c.in-Some.ensures.first (sym c.is_over.ensures ∙ c.if-is_over.false) c.put_command.ensures c.put_behind-place.ensures.wrote c.put_behind-place.ensures.place c.body.invariant
+    (tt, tt, body_more c.body.waits c.is_step-waits.result c.in-Some.command (ahead_of c.body.commands) (ahead_of c.next.new.self) (ahead_of c.put_behind.new.commands) c.in-Some.ensures.steps c.if-is_over.ensures c.put_behind.ensures.passed c.body.invariant.2 c.put_command.ensures c.put_behind.ensures.wrote c.is_step-waits.ensures)

@@ -1,16 +1,14 @@
-use Rattle.std.proofs.Common.{◌||◌, [], ◌∷◌, ◌++◌, sym, ap, ◌∙◌}
+use Rattle.std.proofs.Common.{rules, ◌&&◌, ◌∷◌, subst}
 use Rattle.codes.specs.Written.{parted}
+use Rattle.wire.specs.Cursor.{ahead_of}
 use Rattle.written.proofs.Inks.{then, otherwise}
 use Rattle.written.proofs.walk.put_three_separators.Goals as goal
-use Rattle.wire.specs.Ahead.{ahead}
-use Rattle.written.specs.Pens.{held, inks}
-use Rattle.written.specs.Spelled.{separator_of, bare_of, bar_of}
+use Rattle.written.specs.Pens.{Writes}
+use Rattle.written.specs.Spelled.{bare_of, separator_of}
 
 pub returns : goal.returns
 returns c =
-    otherwise _ _ _ (held c.args.out.now c.args.pen.now) (held c.put_parted-2.new.out c.put_parted-2.new.pen) (sym c.are_bare.ensures ∙ c.if-are_bare.false)
-    (then (36 ∷ []) (separator_of (ahead c.args.code.now c.args.first) ++ ((124 ∷ parted (bare_of (ahead c.args.code.now c.args.second) || bar_of (ahead c.args.code.now c.args.second)) (separator_of (ahead c.args.code.now c.args.second))) ++ (124 ∷ parted (bar_of (ahead c.args.code.now c.args.third)) (separator_of (ahead c.args.code.now c.args.third))))) (held c.args.out.now c.args.pen.now) (held c.put.new.out c.put.new.pen) (held c.put_parted-2.new.out c.put_parted-2.new.pen) c.put.ensures
-    (then (separator_of (ahead c.args.code.now c.args.first)) ((124 ∷ parted (bare_of (ahead c.args.code.now c.args.second) || bar_of (ahead c.args.code.now c.args.second)) (separator_of (ahead c.args.code.now c.args.second))) ++ (124 ∷ parted (bar_of (ahead c.args.code.now c.args.third)) (separator_of (ahead c.args.code.now c.args.third)))) (held c.put.new.out c.put.new.pen) (held c.put_separator.new.out c.put_separator.new.pen) (held c.put_parted-2.new.out c.put_parted-2.new.pen) c.put_separator.ensures
-    (then (124 ∷ parted (bare_of (ahead c.args.code.now c.args.second) || bar_of (ahead c.args.code.now c.args.second)) (separator_of (ahead c.args.code.now c.args.second))) (124 ∷ parted (bar_of (ahead c.args.code.now c.args.third)) (separator_of (ahead c.args.code.now c.args.third))) (held c.put_separator.new.out c.put_separator.new.pen) (held c.put_parted.new.out c.put_parted.new.pen) (held c.put_parted-2.new.out c.put_parted-2.new.pen)
-    (c.put_parted.ensures ∙ ap (λ b. inks (124 ∷ parted b (separator_of (ahead c.args.code.now c.args.second))) (held c.put_separator.new.out c.put_separator.new.pen)) c.is_parted.ensures)
-    (c.put_parted-2.ensures ∙ ap (λ b. inks (124 ∷ parted b (separator_of (ahead c.args.code.now c.args.third))) (held c.put_parted.new.out c.put_parted.new.pen)) c.begins_bar.ensures))))
+    otherwise (bare_of (ahead_of c.args.first) && bare_of (ahead_of c.args.third)) _ (search rules)
+    (then c.put.ensures (then c.put_separator.ensures
+    (then (subst (λ b. Writes (124 ∷ parted b (separator_of (ahead_of c.args.second))) c.put_separator.new.pen c.put_parted.new.pen) c.is_parted.ensures c.put_parted.ensures)
+    (subst (λ b. Writes (124 ∷ parted b (separator_of (ahead_of c.args.third))) c.put_parted.new.pen c.put_parted-2.new.pen) c.begins_bar.ensures c.put_parted-2.ensures))))
