@@ -1,5 +1,5 @@
 -- The check of a definition goes by its matcher and template, then by its pattern and captures.
-use Rattle.std.proofs.Common.{◌≡◌, ℕ, true, false, List, Some, None, Ok, Err, Option, Result, sym, refl, ap, ◌∙◌, arith}
+use Rattle.std.proofs.Common.{◌≡◌, ℕ, true, false, List, Some, None, Ok, Err, Option, Result, sym, refl, ap, ◌∙◌}
 use Rattle.std.specs.Result.{result_err}
 use Rattle.engine.specs.Holdings.{Held, View, load}
 use Rattle.engine.specs.declared.ticket.Ticket.{Ticket}
@@ -44,10 +44,10 @@ read t (Ok p) a s e =
     let w : (a, s) ≡ (p.0, summary t p.1) = cc in
     let q : a ≡ p.0 = ap (λ (x : Matched × Summary). x.0) w in
     (p.1, rw q refl)
-read t (Err x) a s e = let z : ◌≡◌ {A = ℕ} 0 1 = cc in absurd (omega arith)
+read t (Err x) a s e = cc
 
 unread : (t : List ℕ) (d : Result (Matched × Typed) (ParseError EitherError)) (k : Matched × Typed → Result (Matched × Template) ConversionError) (x : ParseError EitherError) → Err x ≡ on_ok d (defined t) → Some (Definition x) ≡ result_err (on_ok (on_err Definition d) k)
-unread t (Ok p) k x e = let z : ◌≡◌ {A = ℕ} 0 1 = cc in absurd (omega arith)
+unread t (Ok p) k x e = cc
 unread t (Err y) k x e = cc
 
 pub definition_refused : (v : View) (m t : List ℕ) (x : ParseError EitherError) → Err x ≡ on_ok (definition_at m t) (defined t) → Some (Definition x) ≡ result_err (checked_by v m t)
@@ -66,9 +66,9 @@ reading a (Ok r) (Ok g) h = fit (captures_fit g (greatest r)) h
   where
     fit : (f : Result (Unit {0}) ConversionError) → None ≡ result_err f → (r' : Template) × (on_ok {B = Matched × Template} f (λ u. Ok (a, r)) ≡ Ok (a, r'))
     fit (Ok u) h = (r, refl)
-    fit (Err y) h = let z : ◌≡◌ {A = ℕ} 0 1 = cc in absurd (omega arith)
-reading a (Err y) (Ok g) h = let z : ◌≡◌ {A = ℕ} 0 1 = cc in absurd (omega arith)
-reading a x (Err y) h = let z : ◌≡◌ {A = ℕ} 0 1 = cc in absurd (omega arith)
+    fit (Err y) h = cc
+reading a (Err y) (Ok g) h = cc
+reading a x (Err y) h = cc
 
 pub accepted_by : (v : View) (m t : List ℕ) (a : Matched) (s : Summary) (before after : Held) (o : Option Ticket) → Ok (a, s) ≡ on_ok (definition_at m t) (defined t) → None ≡ result_err (rest v a t) → Handed before after a o → Accepted (checked_by v m t) before after o
 accepted_by v m t a s before after o e h k =

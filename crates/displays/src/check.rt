@@ -13,16 +13,15 @@ use templates::parse_definition;
 fn captures_fit(groups: Option<usize>, greatest: Option<u32>) -> Result<(), ConversionError>
     ensures { result ≡ captures_fit groups greatest }
 {
-    match (groups, greatest) {
-        (_, None) => Ok(()),
-        (None, Some(_)) => Err(ConversionError::FormatterExpectsRegex),
-        (Some(n), Some(k)) => {
-            if (k as usize) < n {
-                Ok(())
-            } else {
-                Err(ConversionError::RegexNotEnoughCaptures)
-            }
-        }
+    let Some(capture) = greatest else {
+        return Ok(());
+    };
+    let groups = groups.ok_or(ConversionError::FormatterExpectsRegex)?;
+    // no `From` leads from 32 bits to a size, which always has as many here
+    if (capture as usize) < groups {
+        Ok(())
+    } else {
+        Err(ConversionError::RegexNotEnoughCaptures)
     }
 }
 
@@ -33,6 +32,8 @@ fn check_captures(template: &[u8], groups: Option<usize>) -> Result<(), Conversi
     let formatter = parse_formatter(template)?;
     captures_fit(groups, formatter.max_capture)
 }
+
+// Engine and template go on together, since one is asked for the groups that the other wants; neither is a part of the other.
 
 // The same with the groups of what a number holds.
 fn check_held<E: PatternEngine>(
@@ -57,8 +58,9 @@ fn check_pattern<E: PatternEngine>(
     ensures cases { MatchResult result (λ t. Took (E.PatternEngine.view engine.old).held (E.PatternEngine.view engine.new).held t.number text.now) (λ _. Kept (E.PatternEngine.view engine.old).held (E.PatternEngine.view engine.new).held) }
 {
     let ticket = engine.prepare(text)?;
+    // a match, since the ticket goes one way or the other
     match check_held(engine, ticket.number(), template) {
-        Ok(_) => Ok(ticket),
+        Ok(()) => Ok(ticket),
         Err(e) => {
             let _ = engine.give_back(ticket);
             Err(e)

@@ -3,7 +3,7 @@ ghost use Rattle.displays.specs.declared.error.ConversionError.TheVariants.{Defi
 ghost use Rattle.displays.specs.Refusals.{conversion_number, conversion_name, conversion_layer};
 
 use engine::PatternError;
-use refusal::{DeepError, EitherError, Layer, ParseError, Refusal};
+use refusal::{DeepError, EitherError, Layer, ParseError, Refusal, Told};
 
 // Why a definition is refused with an engine.
 #[derive(Clone, Copy, Debug, PartialEq, Eq)]
@@ -27,33 +27,21 @@ impl Refusal for ConversionError {
 
     ghost within = { conversion_layer };
 
-    fn number(&self) -> u8 {
+    fn told(&self) -> Told {
         match *self {
-            ConversionError::Definition(e) => e.kind.number(),
-            ConversionError::Regex(e) => e.number(),
-            ConversionError::FormatterParseError(e) => e.kind.number(),
-            ConversionError::FormatterExpectsRegex => 13,
-            ConversionError::RegexNotEnoughCaptures => 14,
-        }
-    }
-
-    fn name(&self) -> &'static str {
-        match *self {
-            ConversionError::Definition(e) => e.kind.name(),
-            ConversionError::Regex(e) => e.name(),
-            ConversionError::FormatterParseError(e) => e.kind.name(),
-            ConversionError::FormatterExpectsRegex => "FormatterExpectsRegex",
-            ConversionError::RegexNotEnoughCaptures => "RegexNotEnoughCaptures",
-        }
-    }
-
-    fn layer(&self) -> Layer {
-        match *self {
-            ConversionError::Definition(e) => e.kind.layer(),
-            ConversionError::Regex(e) => e.layer(),
-            ConversionError::FormatterParseError(e) => e.kind.layer(),
-            ConversionError::FormatterExpectsRegex => Layer::Book,
-            ConversionError::RegexNotEnoughCaptures => Layer::Book,
+            ConversionError::Definition(e) => e.told(),
+            ConversionError::Regex(e) => e.told(),
+            ConversionError::FormatterParseError(e) => e.told(),
+            ConversionError::FormatterExpectsRegex => Told::new(
+                13,
+                "FormatterExpectsRegex",
+                Layer::Book,
+            ),
+            ConversionError::RegexNotEnoughCaptures => Told::new(
+                14,
+                "RegexNotEnoughCaptures",
+                Layer::Book,
+            ),
         }
     }
 }

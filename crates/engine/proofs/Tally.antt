@@ -1,5 +1,6 @@
 -- How a call changes the number of texts held.
 use Rattle.std.proofs.Common.{◌≡◌, ℕ, zero, suc, ◌+◌, ◌<◌, ◌≤◌, Bool, cond, ◌⊎◌, List, Some, None, Option, sym, refl, ap, ◌∙◌, inl, inr, arith, le-leb}
+use Rattle.std.proofs.Math.Nat.{eq-or-lt_of_le}
 use borrow.Author.Tests.{lt-leb}
 use Rattle.engine.specs.declared.error.PatternError.TheVariants.{EngineFull}
 use Rattle.engine.specs.Holdings.{unprepared, Held, Took, Freed, one, tally}
@@ -17,16 +18,10 @@ pub tally-kept : (n : ℕ) (h h' : Held) → ((k : ℕ) → k < n → h' k ≡ h
 tally-kept zero h h' e = refl
 tally-kept (suc n) h h' e = omega (arith, ap one (e n (omega arith)), tally-kept n h h' (λ k lt. e k (omega arith)))
 
-pub below_or : (i n : ℕ) → i ≤ n → (i ≡ n) ⊎ (i < n)
-below_or zero zero l = inl refl
-below_or zero (suc n) l = inr (omega arith)
-below_or (suc i) zero l = absurd (omega arith)
-below_or (suc i) (suc n) l = elim (below_or i n (omega arith)) [ inl p ↦ inl (ap suc p) | inr p ↦ inr (omega arith) ]
-
 -- alike but at i
 pub tally_but : (n i : ℕ) (h h' : Held) → i < n → ((k : ℕ) → (k ≡ i → ⊥) → h' k ≡ h k) → tally n h' + one (h i) ≡ tally n h + one (h' i)
 tally_but zero i h h' lt e = absurd (omega arith)
-tally_but (suc n) i h h' lt e = go (λ p. tally_but n i h h' p e) (below_or i n (omega arith))
+tally_but (suc n) i h h' lt e = go (λ p. tally_but n i h h' p e) (eq-or-lt_of_le {n = i} {m = n} (omega arith))
   where
     go : (i < n → tally n h' + one (h i) ≡ tally n h + one (h' i)) → (i ≡ n) ⊎ (i < n) → one (h' n) + tally n h' + one (h i) ≡ one (h n) + tally n h + one (h' i)
     go r (inl p) = omega (arith, ap (λ (x : ℕ). one (h x)) p, ap (λ (x : ℕ). one (h' x)) p, tally-kept n h h' (λ k lt. e k (λ q. omega arith)))
@@ -42,7 +37,7 @@ tally_freed n i h h' lt k = omega (arith, tally_but n i h h' lt k.others, ap one
 -- full exactly when no number below n is free
 pub tally_free : (n i : ℕ) (h : Held) → i < n → h i ≡ None → tally n h < n
 tally_free zero i h lt f = absurd (omega arith)
-tally_free (suc n) i h lt f = go (λ p. tally_free n i h p f) (below_or i n (omega arith))
+tally_free (suc n) i h lt f = go (λ p. tally_free n i h p f) (eq-or-lt_of_le {n = i} {m = n} (omega arith))
   where
     go : (i < n → tally n h < n) → (i ≡ n) ⊎ (i < n) → one (h n) + tally n h < suc n
     go r (inl p) = omega (arith, ap (λ (x : ℕ). one (h x)) p, ap one f, tally_le n h)

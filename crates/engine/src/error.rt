@@ -2,7 +2,7 @@ ghost use Rattle.refusal.specs.declared.error.Layer.{Layer};
 ghost use Rattle.refusal.specs.declared.error.Layer.TheVariants.{Pattern};
 ghost use Rattle.engine.specs.Refusals.{pattern_number, pattern_name};
 
-use refusal::{Layer, Refusal};
+use refusal::{Layer, Refusal, Told};
 
 // Why an engine refuses.
 #[derive(Clone, Copy, Debug, PartialEq, Eq)]
@@ -22,23 +22,11 @@ impl Refusal for PatternError {
 
     ghost within = { λ _. Pattern };
 
-    fn number(&self) -> u8 {
+    fn told(&self) -> Told {
         match *self {
-            PatternError::InvalidPattern => 12,
-            PatternError::EngineFull => 33,
-            PatternError::NothingHeld => 38,
+            PatternError::InvalidPattern => Told::new(12, "InvalidPattern", Layer::Pattern),
+            PatternError::EngineFull => Told::new(33, "EngineFull", Layer::Pattern),
+            PatternError::NothingHeld => Told::new(38, "NothingHeld", Layer::Pattern),
         }
-    }
-
-    fn name(&self) -> &'static str {
-        match *self {
-            PatternError::InvalidPattern => "InvalidPattern",
-            PatternError::EngineFull => "EngineFull",
-            PatternError::NothingHeld => "NothingHeld",
-        }
-    }
-
-    fn layer(&self) -> Layer {
-        Layer::Pattern
     }
 }

@@ -8,5 +8,5 @@ mod ticket;
 
 pub use error::PatternError;
 pub use pattern_engine::PatternEngine;
-pub use span::{Span, Spans};
+pub use span::{LONGEST_NAME, Span, Spans};
 pub use ticket::{Leave, Ticket};

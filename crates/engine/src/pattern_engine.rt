@@ -47,10 +47,7 @@ pub trait PatternEngine: Sized {
         ensures refusal { result_err result ≡ refusal_of (view self.old) text.now }
         ensures cases { MatchResult result (λ t. Took (view self.old).held (view self.new).held t.number text.now) (λ _. Kept (view self.old).held (view self.new).held) }
     {
-        match self.hold(text, Leave::new()) {
-            Ok(number) => Ok(Ticket::of(number)),
-            Err(e) => Err(e),
-        }
+        self.hold(text, Leave::new()).map(Ticket::of)
     }
 
     // Frees the ticket's number.

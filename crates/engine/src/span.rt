@@ -2,6 +2,9 @@ ghost use Rattle.std.specs.Prelude.{◌≡◌, List, Option};
 ghost use Rattle.engine.specs.declared.span.Span.{Span};
 ghost use Rattle.engine.specs.Rules.{span_at};
 
+// The most bytes that a name may have that is matched.
+pub const LONGEST_NAME: usize = 255;
+
 // A part of a name, from one place up to another.
 #[derive(Clone, Copy, Debug, PartialEq, Eq)]
 pub struct Span {

@@ -30,12 +30,10 @@ impl Ticket {
 
 // The leave to hold a text without a ticket: only this crate makes one, so a pattern is prepared with a ticket.
 #[derive(Drop)]
-pub struct Leave {
-    made: bool,
-}
+pub struct Leave(());
 
 impl Leave {
     pub(crate) fn new() -> Leave {
-        Leave { made: true }
+        Leave(())
     }
 }

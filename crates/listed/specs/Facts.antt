@@ -1,5 +1,6 @@
 -- The rule that rows give: the unlawful ones, and those against an earlier kept one, are passed over.
 use Rattle.std.specs.Prelude.{ℕ, Bool, true, false, cond, not, ◌&&◌, ◌||◌, List, [], ◌∷◌, length, Some, None, Option, ◌==◌, nat_le}
+use Rattle.std.specs.List.{list_all}
 use Rattle.std.specs.Str.{bytes_eq}
 use Rattle.engine.specs.declared.span.Span.{Span}
 use Rattle.engine.specs.Rules.{Rule}
@@ -17,8 +18,7 @@ lies size None = true
 lies size (Some s) = nat_le s.from s.to && nat_le s.to size
 
 abbrev pub all_lie : ℕ → List (Option Span) → Bool
-all_lie size [] = true
-all_lie size (s ∷ l) = lies size s && all_lie size l
+all_lie size l = list_all (lies size) l
 
 abbrev pub is_whole : ℕ → List (Option Span) → Bool
 is_whole size [] = false

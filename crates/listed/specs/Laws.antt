@@ -16,7 +16,7 @@ use Rattle.listed.specs.Firsts.{tells, first_count, hits, spans_for, spans_with}
 use Rattle.listed.specs.Keeping.{kept-count, kept_spans}
 
 no : {A : Type 0} (P : Type 0) (x : A) → None ≡ Some x → P
-no P x e = let z : ◌≡◌ {A = ℕ} 0 1 = cc in absurd (omega arith)
+no P x e = cc
 
 the : {A : Type 0} (x y : A) → Some x ≡ Some y → x ≡ y
 the x y e = cc
@@ -96,7 +96,7 @@ rule_lawful fs = record {
 }
 
 pub held-within : (a : AnswerList) (k : ℕ) → 32 ≤ k → held_at a k ≡ None
-held-within a k h = ap (slot_text (facts_of a)) (get_or_past a.slots k None (omega (arith, a.full)))
+held-within a k h = ap slot_text (get_or_past a.slots k None (omega (arith, a.full)))
 
 abbrev pub list_view : AnswerList → View
 list_view a = record { rule = rule_of (facts_of a); size = 32; held = held_at a; lawful = rule_lawful (facts_of a); within = held-within a }

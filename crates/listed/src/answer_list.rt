@@ -1,11 +1,12 @@
-ghost use Rattle.std.specs.Prelude.{◌≡◌, ℕ, ◌<◌, map, length, IfSome, None, MatchOption};
+ghost use Rattle.std.specs.Prelude.{◌≡◌, ℕ, ◌<◌, map, length, Some, None, MatchOption, MatchResult};
 ghost use Rattle.engine.specs.Holdings.{one};
+ghost use Rattle.engine.specs.declared.error.PatternError.TheVariants.{NothingHeld};
 ghost use Rattle.listed.specs.Facts.{rule_of};
-ghost use Rattle.listed.specs.Seen.{fact, held_in, slot_text};
+ghost use Rattle.listed.specs.Seen.{fact, held_in};
 ghost use Rattle.listed.specs.Laws.{list_view};
 
 use crate::answers::{AnswerMatch, count_of, find, match_of};
-use crate::rows::{AnswerList, AnswerRow};
+use crate::rows::{AnswerList, AnswerRow, HOLDINGS};
 use engine::{Leave, PatternEngine, PatternError};
 
 impl<'a> AnswerList<'a> {
@@ -16,35 +17,27 @@ impl<'a> AnswerList<'a> {
     {
         AnswerList {
             rows,
-            slots: [None; 32],
+            slots: [None; HOLDINGS],
         }
     }
 }
 
-// The row whose text a number holds.
-fn row_at(rows: &[AnswerRow<'_>], slots: &[Option<usize>], number: usize) -> Option<usize>
-    ensures held { slot_text (map fact rows.now) result ≡ held_in (map fact rows.now) slots.now number }
-    ensures place { IfSome result (λ i. (i < length rows.now) × (number < length slots.now)) }
+// The text that a number holds.
+fn text_at<'a>(slots: &[Option<&'a [u8]>], number: usize) -> Result<&'a [u8], PatternError>
+    ensures { MatchResult result (λ t. (number < length slots.now) × (held_in slots.now number ≡ Some t.now)) (λ e. (held_in slots.now number ≡ None) × (e ≡ NothingHeld)) }
 {
-    if number >= slots.len() {
-        return None;
-    }
-    match slots[number] {
-        Some(i) => { if i < rows.len() { Some(i) } else { None } }
-        None => None,
-    }
+    slots
+        .get(number)
+        .copied()
+        .flatten()
+        .ok_or(PatternError::NothingHeld)
 }
 
 // The first number that is free.
-fn free(rows: &[AnswerRow<'_>], slots: &[Option<usize>]) -> Option<usize>
-    ensures { MatchOption result ((k : ℕ) → k < length slots.now → one (held_in (map fact rows.now) slots.now k) ≡ 1) (λ i. (i < length slots.now) × (held_in (map fact rows.now) slots.now i ≡ None)) }
+fn free(slots: &[Option<&[u8]>]) -> Option<usize>
+    ensures { MatchOption result ((k : ℕ) → k < length slots.now → one (held_in slots.now k) ≡ 1) (λ i. (i < length slots.now) × (held_in slots.now i ≡ None)) }
 {
-    for k in 0..slots.len() {
-        if row_at(rows, slots, k).is_none() {
-            return Some(k);
-        }
-    }
-    None
+    slots.iter().position(|slot| slot.is_none())
 }
 
 impl<'a> PatternEngine for AnswerList<'a> {
@@ -53,26 +46,16 @@ impl<'a> PatternEngine for AnswerList<'a> {
     ghost view = { list_view };
 
     fn hold(&mut self, text: &[u8], _leave: Leave) -> Result<usize, PatternError> {
-        let Some(row) = find(self.rows, text) else {
-            return Err(PatternError::InvalidPattern);
-        };
-        match free(self.rows, &self.slots) {
-            Some(number) => {
-                self.slots[number] = Some(row);
-                Ok(number)
-            }
-            None => Err(PatternError::EngineFull),
-        }
+        let row = find(self.rows, text).ok_or(PatternError::InvalidPattern)?;
+        let number = free(&self.slots).ok_or(PatternError::EngineFull)?;
+        self.slots[number] = Some(row.text);
+        Ok(number)
     }
 
     fn release(&mut self, number: usize) -> Result<(), PatternError> {
-        match row_at(self.rows, &self.slots, number) {
-            Some(_) => {
-                self.slots[number] = None;
-                Ok(())
-            }
-            None => Err(PatternError::NothingHeld),
-        }
+        text_at(&self.slots, number)?;
+        self.slots[number] = None;
+        Ok(())
     }
 
     fn emptied(self) -> AnswerList<'a> {
@@ -84,19 +67,12 @@ impl<'a> PatternEngine for AnswerList<'a> {
     }
 
     fn count(&self, number: usize) -> Result<usize, PatternError> {
-        match row_at(self.rows, &self.slots, number) {
-            Some(i) => match count_of(self.rows, self.rows[i].text) {
-                Some(n) => Ok(n),
-                None => Err(PatternError::InvalidPattern),
-            },
-            None => Err(PatternError::NothingHeld),
-        }
+        let text = text_at(&self.slots, number)?;
+        count_of(self.rows, text).ok_or(PatternError::InvalidPattern)
     }
 
     fn matched(&self, number: usize, name: &[u8]) -> Result<Option<AnswerMatch<'a>>, PatternError> {
-        match row_at(self.rows, &self.slots, number) {
-            Some(i) => Ok(match_of(self.rows, self.rows[i].text, name)),
-            None => Err(PatternError::NothingHeld),
-        }
+        let text = text_at(&self.slots, number)?;
+        Ok(match_of(self.rows, text, name))
     }
 }

@@ -2,6 +2,9 @@ ghost use Rattle.std.specs.Prelude.{◌≡◌, length};
 
 use engine::Span;
 
+// How many texts an engine holds at most.
+pub(crate) const HOLDINGS: usize = 32;
+
 // That a text is a pattern with so many groups, and that it matches the name with these spans.
 #[derive(Clone, Copy)]
 pub struct AnswerRow<'a> {
@@ -11,10 +14,10 @@ pub struct AnswerRow<'a> {
     pub spans: &'a [Option<Span>],
 }
 
-// The rows, and for each number the row whose text it holds.
+// The rows, and for each number the text that it holds.
 #[derive(Drop)]
 pub struct AnswerList<'a> {
     pub(crate) rows: &'a [AnswerRow<'a>],
-    pub(crate) slots: [Option<usize>; 32],
+    pub(crate) slots: [Option<&'a [u8]>; HOLDINGS],
     ghost full: { length slots ≡ 32 },
 }

@@ -1,8 +1,8 @@
 -- A cell comes from the cells behind it.
-use Rattle.std.proofs.Common.{◌≡◌, ℕ, suc, ◌+◌, ◌*◌, ◌<◌, ◌≤◌, Bool, true, false, cond, ◌≢◌, List, [], ◌∷◌, length, get_or, drop, set, Some, None, Option, sym, refl, ap, ◌∙◌, ⊎_elim, arith, length-append, length-drop, get_or-set_other, get_or-set_same}
+use Rattle.std.proofs.Common.{◌≡◌, ℕ, ◌+◌, ◌<◌, ◌≤◌, Bool, true, false, cond, ltb, List, [], ◌∷◌, length, get_or, drop, set, replicate, ◌≢◌, Some, None, Option, IfSome, sym, refl, ap, ◌∙◌, ⊎_elim, arith, length-append, length-drop, get_or-set_other, get_or-set_same}
 use Rattle.std.proofs.str.Laws.{order}
-use Rattle.std.proofs.lemmas.List.{drop_all, drop_more}
-use Rattle.std.proofs.lemmas.Bool.Decides.{nat_tests}
+use Rattle.std.proofs.lemmas.Bool.{cond-true, cond-false, lt-ltb, le-ltb}
+use Rattle.std.proofs.lemmas.List.{drop_all, drop_more, get_or-replicate, length-replicate}
 use Rattle.matching.specs.declared.items.Item.{Item}
 use Rattle.matching.specs.declared.items.Item.TheVariants.{Take, Open, Close}
 use Rattle.matching.specs.declared.items.Times.{Times}
@@ -10,18 +10,18 @@ use Rattle.matching.specs.declared.items.Times.TheVariants.{Once, Maybe, Several
 use Rattle.matching.specs.Ways.{Way, takes, opened, closed}
 use Rattle.matching.specs.Best.{Finder, none, more, or, step, many, taken, at_end, best}
 use Rattle.matching.specs.Items.{has, as_seq}
-use Rattle.matching.specs.Cells.{code, cell, Row, stay, onward, first_or, rests, goes, cell_of}
+use Rattle.matching.specs.Cells.{code, cell, RowOf, stay, onward, first_or, rests, goes, cell_of}
 use Rattle.matching.proofs.Greatest.{best_top}
 
 code-none : (r : Option (List ℕ)) → code (none r) ≡ stay (code r)
 code-none None = refl
 code-none (Some []) = refl
-code-none (Some (t ∷ ts)) = grind (arith, nat_tests)
+code-none (Some (t ∷ ts)) = refl
 
 code_or : (x y : Option (List ℕ)) → code (or x y) ≡ first_or (code x) (code y)
 code_or None y = refl
 code_or (Some []) y = refl
-code_or (Some (t ∷ ts)) y = grind (arith, nat_tests)
+code_or (Some (t ∷ ts)) y = refl
 
 -- there is a first item
 abbrev Headed : Option (List ℕ) → Type 0
@@ -54,7 +54,7 @@ headed-many s f (c ∷ cs) =
 code-more : (r : Option (List ℕ)) → Headed r → code (more r) ≡ onward (code r)
 code-more None h = refl
 code-more (Some []) h = absurd h
-code-more (Some (t ∷ ts)) h = grind (arith, nat_tests)
+code-more (Some (t ∷ ts)) h = ap (λ (n : ℕ). Some n) (omega arith)
 
 module _ (s : ℕ → Bool) (f : Finder) where
   many_is : (cs : List ℕ) → many s f cs ≡ or (step s (many s f) cs) (none (f cs))
@@ -97,7 +97,7 @@ cell_byte (Take s q) is c cs = go (has s c) refl
 cell_byte (Open k) is c cs = code-none (best (as_seq is) at_end (c ∷ cs))
 cell_byte (Close k) is c cs = code-none (best (as_seq is) at_end (c ∷ cs))
 
-cell_end : (i : Item) (is : List Item) (x y : ℕ) → code (best (as_seq (i ∷ is)) at_end []) ≡ cell_of i None (code (best (as_seq is) at_end [])) x y
+cell_end : (i : Item) (is : List Item) (x y : Option ℕ) → code (best (as_seq (i ∷ is)) at_end []) ≡ cell_of i None (code (best (as_seq is) at_end [])) x y
 cell_end (Take s q) is x y = at_end_lem (has s) (best (as_seq is) at_end) q
 cell_end (Open k) is x y = code-none (best (as_seq is) at_end [])
 cell_end (Close k) is x y = code-none (best (as_seq is) at_end [])
@@ -107,17 +107,17 @@ module _ (items : List Item) (name : List ℕ) (i a : ℕ) (d : Item) where
   pub byte_here : i < length items → a < length name → cell items name i a ≡ cell_of (get_or items i d) (Some (get_or name a 0)) (cell items name (i + 1) a) (cell items name (i + 1) (a + 1)) (cell items name i (a + 1))
   byte_here h k = rw (drop_more items i d h, drop_more name a 0 k) (cell_byte (get_or items i d) (drop (i + 1) items) (get_or name a 0) (drop (a + 1) name))
 
-  pub end_here : i < length items → length name ≤ a → cell items name i a ≡ cell_of (get_or items i d) None (cell items name (i + 1) a) 0 0
-  end_here h k = rw (drop_more items i d h, drop_all a name k) (cell_end (get_or items i d) (drop (i + 1) items) 0 0)
+  pub end_here : (x y : Option ℕ) → i < length items → length name ≤ a → cell items name i a ≡ cell_of (get_or items i d) None (cell items name (i + 1) a) x y
+  end_here x y h k = rw (drop_more items i d h, drop_all a name k) (cell_end (get_or items i d) (drop (i + 1) items) x y)
 
 module _ (items : List Item) (name : List ℕ) (i a : ℕ) (last : i ≡ length items) where
   none_left : drop i items ≡ []
   none_left = drop_all i items (omega arith)
 
-  pub past_end : length name ≤ a → cell items name i a ≡ 1
+  pub past_end : length name ≤ a → cell items name i a ≡ Some 0
   past_end k = rw (none_left, drop_all a name k)
 
-  pub past_byte : a < length name → cell items name i a ≡ 0
+  pub past_byte : a < length name → cell items name i a ≡ None
   past_byte k = rw (none_left, drop_more name a 0 k)
 
 -- ---- a cell is small
@@ -127,47 +127,53 @@ way_head (Take s q ∷ is) (takes {rest = rest} part m n w) = rw (length-append 
 way_head (Open k ∷ is) (opened w) = omega arith
 way_head (Close k ∷ is) (closed w) = omega arith
 
-code_small : (is : List Item) (cs : List ℕ) → code (best (as_seq is) at_end cs) ≤ suc (length cs)
-code_small is cs = go (best (as_seq is) at_end cs) refl
+code_small : (is : List Item) (cs : List ℕ) (a m : ℕ) → length cs + a ≤ m → IfSome (code (best (as_seq is) at_end cs)) (λ n. n + a ≤ m)
+code_small is cs a m h = go (best (as_seq is) at_end cs) refl
   where
-    go : (r : Option (List ℕ)) → best (as_seq is) at_end cs ≡ r → code r ≤ suc (length cs)
-    go None e = omega arith
+    go : (r : Option (List ℕ)) → best (as_seq is) at_end cs ≡ r → IfSome (code r) (λ n. n + a ≤ m)
+    go None e = tt
     go (Some []) e = omega arith
     go (Some (t ∷ ts)) e = let w = rw e at (best_top (as_seq is) cs) in omega (arith, way_head is w.0)
 
-pub cell_small : (items : List Item) (name : List ℕ) (i a : ℕ) → length name ≤ 255 → cell items name i a ≤ 256
-cell_small items name i a h = omega (arith, code_small (drop i items) (drop a name), length-drop a name)
+-- from a place of the name no more is taken than is left
+pub cell_small : (items : List Item) (name : List ℕ) (i a m : ℕ) → a ≤ length name → length name ≤ m → IfSome (cell items name i a) (λ n. n + a ≤ m)
+cell_small items name i a m h w = code_small (drop i items) (drop a name) a m (omega (arith, length-drop a name))
+
+-- a cell at any place of the name, from those behind it
+module _ (items : List Item) (name : List ℕ) (i p m : ℕ) (d : Item) (byte later after again : Option ℕ) where
+  pub cell_here : i < length items → p ≤ length name → p + 1 ≡ m → byte ≡ cond (ltb p (length name)) (Some (get_or name p 0)) None → later ≡ cell items name (i + 1) p → (m ≤ length name → after ≡ cell items name (i + 1) m) → (m ≤ length name → again ≡ cell items name i m)
+      → cell_of (get_or items i d) byte later after again ≡ cell items name i p
+  cell_here h k e b w x y = ⊎_elim inner end (order p (length name))
+    where
+      inner : p < length name → cell_of (get_or items i d) byte later after again ≡ cell items name i p
+      inner l =
+          let z = b ∙ cond-true _ _ _ (lt-ltb p (length name) l) in
+          rw (x (omega arith), y (omega arith), z, w, ← e) (sym (byte_here items name i p d h l))
+
+      end : length name ≤ p → cell_of (get_or items i d) byte later after again ≡ cell items name i p
+      end l = let z = b ∙ cond-false _ _ _ (le-ltb p (length name) l) in rw (z, w) (sym (end_here items name i p d after again h l))
 
 -- one cell more of a row that is filled from its end
-pub down_more : (t : List ℕ) (F : ℕ → ℕ) (base p m v n : ℕ) → suc p ≡ m → base + p < length t → v ≡ F p → ((q : ℕ) → m ≤ q → q ≤ n → get_or t (base + q) 0 ≡ F q) → (q : ℕ) → p ≤ q → q ≤ n → get_or (set t (base + p) v) (base + q) 0 ≡ F q
-down_more t F base p m v n e h is above q le lt = ⊎_elim other same (order p q)
+module _ (items : List Item) (name : List ℕ) (i : ℕ) where
+  pub row_more : (row : List (Option ℕ)) (p m : ℕ) (v : Option ℕ) → p + 1 ≡ m → p < length row → v ≡ cell items name i p → ((a : ℕ) → m ≤ a → a ≤ length name → get_or row a None ≡ cell items name i a)
+      → (a : ℕ) → p ≤ a → a ≤ length name → get_or (set row p v) a None ≡ cell items name i a
+  row_more row p m v e h is above a le within = ⊎_elim other same (order p a)
+    where
+      other : p < a → get_or (set row p v) a None ≡ cell items name i a
+      other l = let ne : a ≢ p = omega arith in rw get_or-set_other (above a (omega arith) within)
+
+      same : a ≤ p → get_or (set row p v) a None ≡ cell items name i a
+      same l = let k : a ≡ p = omega arith in rw (k, get_or-set_same) is
+
+-- the row behind the last item
+pub last_row : (items : List Item) (name : List ℕ) (size : ℕ) → length name < size → RowOf items name (length items) (set (replicate size None) (length name) (Some 0))
+last_row items name size h a le = ⊎_elim other same (order a (length name))
   where
-    other : p < q → get_or (set t (base + p) v) (base + q) 0 ≡ F q
-    other l = let ne : base + q ≢ base + p = omega arith in rw get_or-set_other (above q (omega arith) lt)
+    other : a < length name → get_or (set (replicate size None) (length name) (Some 0)) a None ≡ cell items name (length items) a
+    other l = let ne : a ≢ length name = omega arith in get_or-set_other (replicate size None) (length name) a (Some 0) None ne ∙ get_or-replicate size a None None (omega arith) ∙ sym (past_byte items name (length items) a refl l)
 
-    same : q ≤ p → get_or (set t (base + p) v) (base + q) 0 ≡ F q
-    same l = let k : q ≡ p = omega arith in rw (k, get_or-set_same) is
-
--- ---- the last row, and rows that stay
-pub zero_more : (t : List ℕ) (base a : ℕ) → base + a < length t → ((q : ℕ) → q < a → get_or t (base + q) 0 ≡ 0) → (q : ℕ) → q < a + 1 → get_or (set t (base + a) 0) (base + q) 0 ≡ 0
-zero_more t base a h below q lt = ⊎_elim other same (order q a)
-  where
-    other : q < a → get_or (set t (base + a) 0) (base + q) 0 ≡ 0
-    other l = let ne : base + q ≢ base + a = omega arith in rw get_or-set_other (below q l)
-
-    same : a ≤ q → get_or (set t (base + a) 0) (base + q) 0 ≡ 0
-    same l = let k : q ≡ a = omega arith in rw (k, get_or-set_same)
-
-pub last_row : (items : List Item) (name t : List ℕ) → 256 * length items + length name < length t → ((q : ℕ) → q < length name → get_or t (256 * length items + q) 0 ≡ 0) → Row items name (set t (256 * length items + length name) 1) (length items)
-last_row items name t h below a le = ⊎_elim other same (order a (length name))
-  where
-    other : a < length name → get_or (set t (256 * length items + length name) 1) (256 * length items + a) 0 ≡ cell items name (length items) a
-    other l = let ne : 256 * length items + a ≢ 256 * length items + length name = omega arith in get_or-set_other t (256 * length items + length name) (256 * length items + a) 1 0 ne ∙ below a l ∙ sym (past_byte items name (length items) a refl l)
-
-    same : length name ≤ a → get_or (set t (256 * length items + length name) 1) (256 * length items + a) 0 ≡ cell items name (length items) a
+    same : length name ≤ a → get_or (set (replicate size None) (length name) (Some 0)) a None ≡ cell items name (length items) a
     same l =
         let k : a ≡ length name = omega arith in
-        ap (λ (n : ℕ). get_or (set t (256 * length items + length name) 1) (256 * length items + n) 0) k ∙ get_or-set_same t (256 * length items + length name) 1 0 h ∙ sym (past_end items name (length items) a refl l)
-
-pub row_kept : (items : List Item) (name t u : List ℕ) (base j : ℕ) → base ≤ 256 * j → ((q : ℕ) → base ≤ q → get_or u q 0 ≡ get_or t q 0) → Row items name t j → Row items name u j
-row_kept items name t u base j h same r a le = same (256 * j + a) (omega arith) ∙ r a le
+        let w : length name < length (replicate {A = Option ℕ} size None) = omega (arith, length-replicate {A = Option ℕ} size None) in
+        rw k (get_or-set_same (replicate size None) (length name) (Some 0) None w ∙ sym (past_end items name (length items) (length name) refl (omega arith)))

@@ -18,7 +18,7 @@ abbrev Clean : List ℕ → Type 0
 Clean cs = times_at cs ≡ (Once, 0)
 
 plain_no : (c k : ℕ) → plain c ≡ true → plain k ≡ false → c ≡ k → ⊥
-plain_no c k p q e = let x : plain k ≡ true = rw e at p in let b : ◌≡◌ {A = ℕ} 0 1 = cc in omega arith
+plain_no c k p q e = let x : plain k ≡ true = rw e at p in cc
 
 plain_clean : (c : ℕ) (cs : List ℕ) → plain c ≡ true → Clean (c ∷ cs)
 plain_clean c cs p =
@@ -136,7 +136,7 @@ split_as : (cs : List ℕ) (s t : Set) (k m : ℕ) → ◌≡◌ {A = Option (Se
 split_as cs s t k m e r = let p = same_pair s t k m e in subst (λ (u : ℕ). Split cs t u) p.1 (subst (λ (u : Set). Split cs u k) p.0 r)
 
 no_pair : {P : Type 0} (t : Set) (m : ℕ) → ◌≡◌ {A = Option (Set × ℕ)} None (Some (t, m)) → P
-no_pair t m e = let b : ◌≡◌ {A = ℕ} 0 1 = cc in absurd (omega arith)
+no_pair t m e = cc
 
 same_byte : (c k : ℕ) → eqb c k ≡ true → c ≡ k
 same_byte c k e = grind (arith, nat_tests)
@@ -179,13 +179,13 @@ record Emitted (i : Item) (g : Got) (items : List Item) (m : ℕ) : Type 0 where
   all : i ∷ is ≡ items
 
 emitted : (i : Item) (g : Got) (items : List Item) (m : ℕ) → emit i g ≡ Some (items, m) → Emitted i g items m
-emitted i None items m e = let b : ◌≡◌ {A = ℕ} 0 1 = cc in absurd (omega arith)
+emitted i None items m e = cc
 emitted i (Some p) items m e =
     let u : (i ∷ p.0, p.1) ≡ (items, m) = cc in
     record { is = p.0; got = ap (λ (k : ℕ). Some (p.0, k)) (ap (λ (q : List Item × ℕ). q.1) u); all = ap (λ (q : List Item × ℕ). q.0) u }
 
 no_got : {P : Type 0} (items : List Item) (m : ℕ) → ◌≡◌ {A = Got} None (Some (items, m)) → P
-no_got items m e = let b : ◌≡◌ {A = ℕ} 0 1 = cc in absurd (omega arith)
+no_got items m e = cc
 
 ending : (ks : List ℕ) (d n m : ℕ) (items : List Item) → outside ks n ≡ Some (items, m) → Rest d ks n m [] items
 ending [] d n m items e =

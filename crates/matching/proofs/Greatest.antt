@@ -179,7 +179,7 @@ module _ (s : ℕ → Bool) (W : List ℕ → List ℕ → Type 0) (f : List ℕ
           from : (ts : List ℕ) → Taking s Any W (c ∷ cs) ts → Zero (W (c ∷ cs)) ts
           from [] w = w
           from (zero ∷ us) w = w.2
-          from (suc t ∷ us) w = let x = w.0.0 in let b : ◌≡◌ {A = ℕ} 0 1 = cc in absurd (omega arith)
+          from (suc t ∷ us) w = let x = w.0.0 in cc
 
   -- one byte, and then as g says
   abbrev Step : (List ℕ → List ℕ → Type 0) → List ℕ → List ℕ → Type 0
@@ -192,7 +192,7 @@ module _ (s : ℕ → Bool) (W : List ℕ → List ℕ → Type 0) (f : List ℕ
     where
       go : (b : Bool) → s c ≡ b → Top (Step V (c ∷ cs)) (cond b (more (g cs)) None)
       go true e = top_map (Up (V cs)) (Step V (c ∷ cs)) (λ ts w. (e, w)) (λ ts w. w.1) (more (g cs)) (more_top (V cs) (g cs) (h cs))
-      go false e = λ ts w. let x = w.0 in let b : ◌≡◌ {A = ℕ} 0 1 = cc in absurd (omega arith)
+      go false e = λ ts w. let x = w.0 in cc
 
   abbrev Zeros : List ℕ → List ℕ → Type 0
   Zeros cs ts = Zero (W cs) ts
@@ -340,7 +340,7 @@ end_is done = (refl, refl)
 
 pub end_top : Right end at_end
 end_top [] = (done, λ us w. subst (λ (l : List ℕ). AtMost l []) (sym (end_is w).1) tt)
-end_top (c ∷ cs) = λ ts w. let e = (end_is w).0 in let b : ◌≡◌ {A = ℕ} 0 1 = cc in absurd (omega arith)
+end_top (c ∷ cs) = λ ts w. let e = (end_is w).0 in cc
 
 pub join_end : (p : Seq) → join p end ≡ p
 join_end end = refl

@@ -61,7 +61,7 @@ once_append x (Open j ∷ is) js o p h = (in_front x (opening j) is js o.0 (firs
 once_append x (Close j ∷ is) js o p h = (in_front x (closing j) is js o.0 (first_apart x (closing j) is js h), once_append x is js o.1 p (rest_apart x (closing j) is js h))
 
 not_both : (x : Mark) (n : ℕ) → x ≡ opening n → x ≡ closing n → ⊥
-not_both x n e f = let z : ◌≡◌ {A = ℕ} 0 1 = cc in omega arith
+not_both x n e f = cc
 
 pattern_once : {d n m : ℕ} {text : List ℕ} {is : List Item} → Pattern d n m text is → (x : Mark) → Once x is
 pattern_once none x = tt

@@ -58,7 +58,7 @@ abbrev In : ℕ → ℕ → Places → Type 0
 In at n l = (k a b : ℕ) → get_or l k None ≡ Some (a, b) → (a ≤ at) × (a ≤ b) × (b ≤ n)
 
 no_place : {P : Type 0} (a b : ℕ) → ◌≡◌ {A = Option (ℕ × ℕ)} None (Some (a, b)) → P
-no_place a b e = let z : ◌≡◌ {A = ℕ} 0 1 = cc in absurd (omega arith)
+no_place a b e = cc
 
 parts : (x y a b : ℕ) → ◌≡◌ {A = Option (ℕ × ℕ)} (Some (x, y)) (Some (a, b)) → (x ≡ a) × (y ≡ b)
 parts x y a b e = let u : ◌≡◌ {A = ℕ × ℕ} (x, y) (a, b) = cc in (ap (λ (p : ℕ × ℕ). p.0) u, ap (λ (p : ℕ × ℕ). p.1) u)
@@ -167,7 +167,7 @@ module _ (text name : List ℕ) (items : List Item) (m : ℕ) (p : Pattern 16 1 
   }
 
   spans : (r : Option (List ℕ)) (l : Places) → Top (Way (as_seq items) name) r → on_way m (as_seq items) name r ≡ Some l → Spanning m (length name) l
-  spans None l h e = let z : ◌≡◌ {A = ℕ} 0 1 = cc in absurd (omega arith)
+  spans None l h e = cc
   spans (Some ts) l h e = let q : placed ts (as_seq items) 0 (blank m (length name)) ≡ l = cc in subst (Spanning m (length name)) q (on_way_lem ts h.0)
 
 pub matches_span : MatchesSpan
@@ -175,7 +175,7 @@ matches_span text name items m l p e = spans text name items m p (best (as_seq i
 
 -- ---- a reading of at most 96 bytes
 fewest : (m size : ℕ) (p : Seq) (name : List ℕ) → m ≤ size → (r : Option (List ℕ)) (l : Places) → on_way size p name r ≡ Some l → on_way m p name r ≡ Some (take m l)
-fewest m size p name h None l e = let z : ◌≡◌ {A = ℕ} 0 1 = cc in absurd (omega arith)
+fewest m size p name h None l e = cc
 fewest m size p name h (Some ts) l e =
     let q : placed ts p 0 (blank size (length name)) ≡ l = cc in
     ap Some (sym (ap (take m) (sym q) ∙ take-placed m ts p 0 (blank size (length name)) ∙ ap (placed ts p 0) (take-blank m size (length name) h)))
@@ -186,7 +186,7 @@ fewer m size p name l h e = fewest m size p name h (best p at_end name) l e
 
 unmatched : (m size : ℕ) (p : Seq) (name : List ℕ) (r : Option (List ℕ)) → on_way size p name r ≡ None → on_way m p name r ≡ None
 unmatched m size p name None e = refl
-unmatched m size p name (Some ts) e = let z : ◌≡◌ {A = ℕ} 0 1 = cc in absurd (omega arith)
+unmatched m size p name (Some ts) e = cc
 
 pub none_fewer : (m size : ℕ) (p : Seq) (name : List ℕ) → match_in size p name ≡ None → match_in m p name ≡ None
 none_fewer m size p name e = unmatched m size p name (best p at_end name) e

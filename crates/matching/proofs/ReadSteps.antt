@@ -4,27 +4,7 @@ use Rattle.std.proofs.lemmas.Bool.Decides.{nat_tests}
 use Rattle.matching.specs.declared.items.Item.{Item}
 use Rattle.matching.specs.declared.items.Item.TheVariants.{Take, Open, Close}
 use Rattle.matching.specs.declared.items.Set.{Set}
-use Rattle.matching.specs.declared.items.Set.TheVariants.{Dot, Byte}
-use Rattle.matching.specs.Reader.{special, plain, escaped, atom_at, times_at, Got, emit, on_set, read_from, after}
-
--- ---- the next set
-pub atom_dot : (c : ℕ) (cs : List ℕ) → c ≡ 46 → atom_at (c ∷ cs) ≡ Some (Dot, 0)
-atom_dot c cs e = rw e
-
-pub atom_other : (c : ℕ) (cs : List ℕ) → (c ≡ 46 → ⊥) → (c ≡ 92 → ⊥) → plain c ≡ false → atom_at (c ∷ cs) ≡ None
-atom_other c cs h k p = let a : eqb c 46 ≡ false = grind (arith, nat_tests) in let b : eqb c 92 ≡ false = grind (arith, nat_tests) in rw (p, a, b)
-
-pub atom_plain : (c : ℕ) (cs : List ℕ) → (c ≡ 46 → ⊥) → (c ≡ 92 → ⊥) → plain c ≡ true → atom_at (c ∷ cs) ≡ Some (Byte c, 0)
-atom_plain c cs h k p = let a : eqb c 46 ≡ false = grind (arith, nat_tests) in let b : eqb c 92 ≡ false = grind (arith, nat_tests) in rw (p, a, b)
-
-pub atom_escape : (c : ℕ) (cs : List ℕ) → c ≡ 92 → atom_at (c ∷ cs) ≡ escaped cs
-atom_escape c cs e = rw e
-
-pub escape_one : (c : ℕ) (cs : List ℕ) → special c ≡ true → escaped (c ∷ cs) ≡ Some (Byte c, 1)
-escape_one c cs e = rw e
-
-pub escape_not : (c : ℕ) (cs : List ℕ) → special c ≡ false → escaped (c ∷ cs) ≡ None
-escape_not c cs e = rw e
+use Rattle.matching.specs.Reader.{atom_at, times_at, Got, emit, on_set, read_from, after}
 
 -- ---- one step
 pub skips : (k : ℕ) (ks : List ℕ) (n : ℕ) (cs : List ℕ) → read_from k ks n cs ≡ read_from 0 ks n (drop k cs)
@@ -39,21 +19,12 @@ module _ (ks : List ℕ) (n c : ℕ) (cs : List ℕ) where
   pub open_more : c ≡ 40 → length ks < 16 → read_from 0 ks n (c ∷ cs) ≡ emit (Open n) (read_from 0 (n ∷ ks) (n + 1) cs)
   open_more e h = let l : ltb (length ks) 16 ≡ true = grind (arith, nat_tests) in rw (e, l)
 
-  pub open_full : c ≡ 40 → length ks ≡ 16 → read_from 0 ks n (c ∷ cs) ≡ None
-  open_full e h = rw (e, h)
-
   pub set_more : (c ≡ 40 → ⊥) → (c ≡ 41 → ⊥) → (s : Set) (m : ℕ) → Some (s, m) ≡ atom_at (c ∷ cs) → read_from 0 ks n (c ∷ cs) ≡ emit (Take s (times_at (drop m cs)).0) (read_from 0 ks n (drop (m + (times_at (drop m cs)).1) cs))
   set_more h k s m e =
       let a : eqb c 40 ≡ false = grind (arith, nat_tests) in
       let b : eqb c 41 ≡ false = grind (arith, nat_tests) in
       two _ _ _ (eqb c 40) (eqb c 41) a b ∙ ap (λ (r : Option (Set × ℕ)). on_set r (λ s more. emit (Take s (times_at (drop more cs)).0) (read_from (more + (times_at (drop more cs)).1) ks n cs))) (sym e)
       ∙ ap (emit (Take s (times_at (drop m cs)).0)) (skips (m + (times_at (drop m cs)).1) ks n cs)
-
-  pub set-none : (c ≡ 40 → ⊥) → (c ≡ 41 → ⊥) → None ≡ atom_at (c ∷ cs) → read_from 0 ks n (c ∷ cs) ≡ None
-  set-none h k e =
-      let a : eqb c 40 ≡ false = grind (arith, nat_tests) in
-      let b : eqb c 41 ≡ false = grind (arith, nat_tests) in
-      two _ _ _ (eqb c 40) (eqb c 41) a b ∙ ap (λ (r : Option (Set × ℕ)). on_set r (λ s more. emit (Take s (times_at (drop more cs)).0) (read_from (more + (times_at (drop more cs)).1) ks n cs))) (sym e)
 
 pub close_more : (k : ℕ) (ks : List ℕ) (n c : ℕ) (cs : List ℕ) → c ≡ 41 → read_from 0 (k ∷ ks) n (c ∷ cs) ≡ emit (Close k) (read_from 0 ks n cs)
 close_more k ks n c cs e = rw e

@@ -1,5 +1,5 @@
 -- The table of first takes: what a cell holds, and how it comes from the cells behind it.
-use Rattle.std.specs.Prelude.{◌≡◌, ℕ, suc, ◌+◌, ◌*◌, ◌≤◌, cond, List, [], ◌∷◌, length, drop, Some, None, Option, ◌==◌, slice_index, slice_index_or, slice_set}
+use Rattle.std.specs.Prelude.{◌≡◌, ℕ, ◌+◌, ◌≤◌, cond, List, [], ◌∷◌, length, drop, Some, None, Option, slice_index_or, slice_set}
 use Rattle.matching.specs.declared.items.Item.{Item}
 use Rattle.matching.specs.declared.items.Item.TheVariants.{Take, Open, Close}
 use Rattle.matching.specs.declared.items.Times.{Times}
@@ -8,45 +8,54 @@ use Rattle.matching.specs.Best.{at_end, best}
 use Rattle.matching.specs.Items.{has, as_seq}
 use Rattle.matching.specs.Places.{Places, ended}
 
--- 0 where there is no way, else one more than the first item takes
-abbrev pub code : Option (List ℕ) → ℕ
-code None = 0
-code (Some []) = 1
-code (Some (t ∷ ts)) = suc t
+-- what the first item takes, where there is a way; nothing where no item is left
+abbrev pub code : Option (List ℕ) → Option ℕ
+code None = None
+code (Some []) = Some 0
+code (Some (t ∷ ts)) = Some t
 
 -- the items from i on, and the name from a on
-abbrev pub cell : List Item → List ℕ → ℕ → ℕ → ℕ
+abbrev pub cell : List Item → List ℕ → ℕ → ℕ → Option ℕ
 cell items name i a = code (best (as_seq (drop i items)) at_end (drop a name))
 
--- row i of the table, which has a place for each of 256 bytes
-abbrev pub Row : List Item → List ℕ → List ℕ → ℕ → Type 0
-Row items name table i = (a : ℕ) → a ≤ length name → slice_index table (256 * i + a) ≡ cell items name i a
+-- a row of the table, that of item i: a cell for each place of the name
+abbrev pub RowOf : List Item → List ℕ → ℕ → List (Option ℕ) → Type 0
+RowOf items name i row = (a : ℕ) → a ≤ length name → slice_index_or row a None ≡ cell items name i a
 
-abbrev pub stay : ℕ → ℕ
-stay x = cond (x == 0) 0 1
+-- row i of the table
+abbrev pub Row : List Item → List ℕ → List (List (Option ℕ)) → ℕ → Type 0
+Row items name table i = RowOf items name i (slice_index_or table i [])
 
-abbrev pub onward : ℕ → ℕ
-onward x = cond (x == 0) 0 (x + 1)
+-- where the later items can take what is left, no byte is taken
+abbrev pub stay : Option ℕ → Option ℕ
+stay None = None
+stay (Some n) = Some 0
 
-abbrev pub first_or : ℕ → ℕ → ℕ
-first_or x y = cond (x == 0) y x
+-- one byte more is taken
+abbrev pub onward : Option ℕ → Option ℕ
+onward None = None
+onward (Some n) = Some (n + 1)
+
+abbrev pub first_or : Option ℕ → Option ℕ → Option ℕ
+first_or None y = y
+first_or (Some n) y = Some n
 
 -- the item takes nothing here
-abbrev pub rests : Times → ℕ → ℕ
-rests Once later = 0
+abbrev pub rests : Times → Option ℕ → Option ℕ
+rests Once later = None
 rests Maybe later = stay later
-rests Several later = 0
+rests Several later = None
 rests Many later = stay later
 
 -- the item may take a byte here
-abbrev pub goes : Times → ℕ → ℕ → ℕ → ℕ
+abbrev pub goes : Times → Option ℕ → Option ℕ → Option ℕ → Option ℕ
 goes Once later after again = onward (stay after)
 goes Maybe later after again = first_or (onward (stay after)) (stay later)
 goes Several later after again = onward (first_or again (stay after))
 goes Many later after again = first_or (onward again) (stay later)
 
 -- a cell from those of the later items here and a byte on, and from the item's own a byte on
-abbrev pub cell_of : Item → Option ℕ → ℕ → ℕ → ℕ → ℕ
+abbrev pub cell_of : Item → Option ℕ → Option ℕ → Option ℕ → Option ℕ → Option ℕ
 cell_of (Take s q) None later after again = rests q later
 cell_of (Take s q) (Some c) later after again = cond (has s c) (goes q later after again) (rests q later)
 cell_of (Open k) b later after again = stay later

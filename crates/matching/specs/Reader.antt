@@ -1,5 +1,5 @@
 -- The items that a pattern's text writes.
-use Rattle.std.specs.Prelude.{ℕ, zero, suc, ◌+◌, Bool, cond, not, ◌&&◌, ◌||◌, List, [], ◌∷◌, ◌++◌, length, take, drop, Some, None, Option, ◌==◌, nat_le, nat_lt}
+use Rattle.std.specs.Prelude.{ℕ, zero, suc, ◌+◌, Bool, cond, not, ◌&&◌, ◌||◌, List, [], ◌∷◌, ◌++◌, length, drop, Some, None, Option, ◌==◌, nat_le, nat_lt}
 use Rattle.matching.specs.declared.items.Item.{Item}
 use Rattle.matching.specs.declared.items.Item.TheVariants.{Take, Open, Close}
 use Rattle.matching.specs.declared.items.Set.{Set}
@@ -60,17 +60,7 @@ read_from zero ks n (c ∷ cs) =
 abbrev pub items_of : List ℕ → Got
 items_of text = read_from 0 [] 1 text
 
--- what stands in a buffer
-abbrev pub seen : Option (ℕ × ℕ) → List Item → Got
-seen None out = None
-seen (Some p) out = Some (take p.0 out, p.1)
-
 -- items in front of those that are still to be read
 abbrev pub after : List Item → Got → Got
 after is None = None
 after is (Some p) = Some (is ++ p.0, p.1)
-
--- what is read of a part of the text, and what is left of it
-abbrev pub passed : Option (ℕ × ℕ × ℕ) → List Item → List ℕ → List ℕ → Got
-passed None out ks text = None
-passed (Some p) out ks text = after (take p.2 out) (read_from 0 ks p.1 (drop p.0 text))

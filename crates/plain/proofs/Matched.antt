@@ -1,7 +1,5 @@
 -- What is found of a name, as spans.
-use Rattle.std.proofs.Common.{◌≡◌, ℕ, ◌<◌, ◌≤◌, Bool, true, false, cond, ◌&&◌, leb, List, map, length, get_or, take, Some, None, Option, sym, refl, ap, ◌∙◌, arith, le-leb}
-use Rattle.std.proofs.lemmas.List.{get_or-take, get_or_past}
-use Rattle.engine.specs.Rules.{span_at}
+use Rattle.std.proofs.Common.{◌≡◌, ℕ, ◌≤◌, Bool, true, false, cond, ◌&&◌, leb, List, map, length, take, Some, None, Option, sym, refl, ap, ◌∙◌, le-leb}
 use Rattle.matching.specs.declared.items.Item.{Item}
 use Rattle.matching.specs.Items.{as_seq}
 use Rattle.matching.specs.Reader.{Got, items_of}
@@ -9,13 +7,6 @@ use Rattle.matching.specs.Best.{at_end, best}
 use Rattle.matching.specs.Places.{Places, placed, blank, on_way, match_in, match_by}
 use Rattle.matching.proofs.Placing.{fewer, few_groups, length-placed, length-blank}
 use Rattle.plain.specs.Rules.{as_span, as_spans, plain_spans}
-use Rattle.plain.specs.Laws.{span_at_lem}
-
-pub listed_at : (l : Places) (count k : ℕ) → k < count → as_span (get_or l k None) ≡ span_at (map as_span (take count l)) k
-listed_at l count k h = sym (span_at_lem (take count l) k ∙ ap as_span (get_or-take count l k None h))
-
-pub unlisted : (l : Places) (count k : ℕ) → length (take count l) ≤ k → None ≡ span_at (map as_span (take count l)) k
-unlisted l count k h = sym (span_at_lem (take count l) k ∙ ap as_span (get_or_past (take count l) k None h))
 
 pub found_spans : (text name : List ℕ) (items : List Item) (m : ℕ) (l : Places) → length text ≤ 96 → Some (items, m) ≡ items_of text → Some l ≡ cond (leb (length name) 255) (match_in 49 (as_seq items) name) None → Some (map as_span (take m l)) ≡ plain_spans text name
 found_spans text name items m l h e f = go (leb (length name) 255) refl f
@@ -27,15 +18,15 @@ found_spans text name items m l h e f = go (leb (length name) 255) refl f
         ∙ ap (λ (g : Got). cond b (as_spans (match_by g name)) None) (sym e)
 
     go : (b : Bool) → leb (length name) 255 ≡ b → Some l ≡ cond b (match_in 49 (as_seq items) name) None → Some (map as_span (take m l)) ≡ plain_spans text name
-    go false q f = let z : ◌≡◌ {A = ℕ} 0 1 = cc in absurd (omega arith)
+    go false q f = cc
     go true q f = sym (as_read true q ∙ ap as_spans (fewer m 49 (as_seq items) name l (few_groups text items m (sym e) h).1 (sym f)))
 
 pub found_size : (name : List ℕ) (items : List Item) (l : Places) → Some l ≡ cond (leb (length name) 255) (match_in 49 (as_seq items) name) None → length l ≡ 49
 found_size name items l = go (leb (length name) 255) (best (as_seq items) at_end name)
   where
     go : (b : Bool) (r : Option (List ℕ)) → Some l ≡ cond b (on_way 49 (as_seq items) name r) None → length l ≡ 49
-    go false r e = let z : ◌≡◌ {A = ℕ} 0 1 = cc in absurd (omega arith)
-    go true None e = let z : ◌≡◌ {A = ℕ} 0 1 = cc in absurd (omega arith)
+    go false r e = cc
+    go true None e = cc
     go true (Some ts) e =
         let q : l ≡ placed ts (as_seq items) 0 (blank 49 (length name)) = cc in
         ap length q ∙ length-placed ts (as_seq items) 0 (blank 49 (length name)) ∙ length-blank 49 (length name)

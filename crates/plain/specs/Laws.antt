@@ -1,7 +1,7 @@
 -- The rule of the plain engine is lawful.
 use Rattle.std.specs.Prelude.{◌≡◌, ℕ, zero, suc, ◌≤◌, Bool, true, false, cond, ◌&&◌, leb, List, [], ◌∷◌, map, length, Some, None, Option, nat_le, slice_index_or, refl}
 use Rattle.std.proofs.Common.{sym, ap, subst, ◌∙◌, arith, leb-true}
-use Rattle.std.proofs.lemmas.List.{length-map}
+use Rattle.std.proofs.lemmas.List.{length-map, get_or_past}
 use Rattle.engine.specs.declared.span.Span.{Span}
 use Rattle.engine.specs.Rules.{Lawful, Marks, Inside, span_at}
 use Rattle.engine.specs.Holdings.{View}
@@ -9,13 +9,13 @@ use Rattle.matching.specs.Reader.{Got, items_of}
 use Rattle.matching.specs.Places.{Places, Spanning, count_in, match_by}
 use Rattle.matching.proofs.Grammatical.{reads-patterns}
 use Rattle.matching.proofs.Placing.{matches_span, few_groups}
-use Rattle.plain.specs.declared.slots.Slot.{Slot}
 use Rattle.plain.specs.declared.slots.PlainEngine.{PlainEngine}
 use Rattle.plain.specs.Rules.{as_span, as_spans, plain_count, plain_spans, plain_rule}
+use Rattle.plain.specs.Texts.{text_in}
 use Rattle.plain.specs.Slots.{held_in}
 
 no : {A : Type 0} (P : Type 0) (x : A) → None ≡ Some x → P
-no P x e = let z : ◌≡◌ {A = ℕ} 0 1 = cc in absurd (omega arith)
+no P x e = cc
 
 the : {A : Type 0} (x y : A) → Some x ≡ Some y → x ≡ y
 the x y e = cc
@@ -74,13 +74,8 @@ plain_lawful = record {
   marks = λ text name l e. (fits text name l e).marks;
 }
 
-held-past : (ss : List Slot) (i : ℕ) → length ss ≤ i → held_in ss i ≡ None
-held-past [] i h = refl
-held-past (s ∷ ss) zero h = absurd (omega arith)
-held-past (s ∷ ss) (suc i) h = held-past ss i (omega arith)
-
 pub plain-within : (e : PlainEngine) (k : ℕ) → 16 ≤ k → held_in e.slots k ≡ None
-plain-within e k h = held-past e.slots k (omega (arith, e.sixteen))
+plain-within e k h = ap text_in (get_or_past e.slots k None (omega (arith, e.sixteen)))
 
 abbrev pub plain_view : PlainEngine → View
 plain_view e = record { rule = plain_rule; size = 16; held = held_in e.slots; lawful = plain_lawful; within = plain-within e }

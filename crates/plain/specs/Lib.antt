@@ -2,3 +2,4 @@ pub mod Rules
 pub mod Texts
 pub mod Slots
 pub mod Laws
+pub mod Reading

@@ -1,7 +1,8 @@
-ghost use Rattle.std.specs.Prelude.{◌≡◌, ℕ, ◌+◌, ◌*◌, ◌<◌, ◌≤◌, length, slice_index};
+ghost use Rattle.std.specs.Prelude.{◌≡◌, ℕ, ◌+◌, ◌<◌, ◌≤◌, ◌≢◌, [], length, IfSome, slice_index_or};
 ghost use Rattle.matching.specs.Items.{has};
-ghost use Rattle.matching.specs.Cells.{cell_of, cell, Row, stay, onward, first_or, rests, goes};
+ghost use Rattle.matching.specs.Cells.{cell_of, RowOf, Row, stay, onward, first_or, rests, goes};
 
+use crate::search::{Cells, PLACES, Search};
 use matching::{Item, Set, Times};
 
 fn holds(set: Set, byte: u8) -> bool
@@ -13,125 +14,100 @@ fn holds(set: Set, byte: u8) -> bool
     }
 }
 
-// No byte is taken: 1 where the later items can take what is left.
-fn none(later: u16) -> u16
+// No byte is taken, where the later items can take what is left.
+fn none(later: Option<u8>) -> Option<u8>
     ensures { result ≡ stay later }
 {
-    if later == 0 { 0 } else { 1 }
+    later.and(Some(0))
 }
 
 // A byte more is taken.
-fn more(cell: u16) -> u16
-    requires { cell ≤ 256 }
+fn more(cell: Option<u8>) -> Option<u8>
+    requires { IfSome cell (λ n. n < 255) }
     ensures { result ≡ onward cell }
 {
-    if cell == 0 { 0 } else { cell + 1 }
+    Some(cell? + 1)
 }
 
-fn first(one: u16, other: u16) -> u16
-    ensures { result ≡ first_or one other }
-{
-    if one == 0 { other } else { one }
-}
-
-fn resting(times: Times, later: u16) -> u16
+fn resting(times: Times, later: Option<u8>) -> Option<u8>
     ensures { result ≡ rests times later }
 {
     match times {
-        Times::Once | Times::Several => 0,
+        Times::Once | Times::Several => None,
         Times::Maybe | Times::Many => none(later),
     }
 }
 
-fn taking(times: Times, later: u16, after: u16, again: u16) -> u16
-    requires { again ≤ 256 }
+fn taking(times: Times, later: Option<u8>, after: Option<u8>, again: Option<u8>) -> Option<u8>
+    requires { IfSome again (λ n. n < 255) }
     ensures { result ≡ goes times later after again }
 {
     match times {
         Times::Once => more(none(after)),
-        Times::Maybe => first(more(none(after)), none(later)),
-        Times::Several => more(first(again, none(after))),
-        Times::Many => first(more(again), none(later)),
+        Times::Maybe => more(none(after)).or(none(later)),
+        Times::Several => more(again.or(none(after))),
+        Times::Many => more(again).or(none(later)),
     }
 }
 
 // A cell, from those of the later items here and a byte on, and from the item's own a byte on.
-fn cell_of(item: Item, byte: Option<u8>, later: u16, after: u16, again: u16) -> u16
-    requires { again ≤ 256 }
+fn cell_of(
+    item: Item,
+    byte: Option<u8>,
+    later: Option<u8>,
+    after: Option<u8>,
+    again: Option<u8>,
+) -> Option<u8>
+    requires { IfSome again (λ n. n < 255) }
     ensures { result ≡ cell_of item byte later after again }
 {
-    match item {
-        Item::Take(set, times) => match byte {
-            Some(b) => {
-                if holds(set, b) {
-                    taking(times, later, after, again)
-                } else {
-                    resting(times, later)
-                }
-            }
-            None => resting(times, later),
-        },
-        Item::Open(_) | Item::Close(_) => none(later),
+    match (item, byte) {
+        (Item::Take(set, times), Some(b)) if holds(set, b) => taking(times, later, after, again),
+        (Item::Take(_, times), _) => resting(times, later),
+        (Item::Open(_) | Item::Close(_), _) => none(later),
     }
 }
 
-// What item i takes at place a, by row i + 1 and by row i behind the place.
-fn cell_at(items: &[Item], name: &[u8], table: &[u16], i: usize, a: usize) -> u16
-    requires sizes { (length name.now ≤ 255) × ((256 * (length items.now + 1) ≤ length table.now) × ((i < length items.now) × (a ≤ length name.now))) }
-    requires later { Row items.now name.now table.now (i + 1) }
-    requires again { a < length name.now → slice_index table.now (256 * i + (a + 1)) ≡ cell items.now name.now i (a + 1) }
-    ensures { result ≡ cell items.now name.now i a }
-{
-    let here = 256 * i + a;
-    if a < name.len() {
-        cell_of(
-            items[i],
-            Some(name[a]),
-            table[here + 256],
-            table[here + 257],
-            table[here + 1],
-        )
-    } else {
-        cell_of(items[i], None, table[here + 256], 0, 0)
+impl Search<'_> {
+    // Fills the row of item `i` from that of the next, from the end of the name back.
+    fn fill_row(&self, i: usize, table: &mut [Cells])
+        requires within { i < length self.now.items.now }
+        requires each { length self.now.items.now < length table.old }
+        requires later { Row self.now.items.now self.now.name.now table.old (i + 1) }
+        ensures row { Row self.now.items.now self.now.name.now table.new i }
+        ensures others { (j : ℕ) → (j ≢ i) → slice_index_or table.new j [] ≡ slice_index_or table.old j [] }
+    {
+        let mut after = None;
+        let mut again = None;
+        // by place, since a cell stands beside a byte of the name and beside cells of two rows
+        for at in (0..self.name.len() + 1).rev() {
+            let byte = self.name.get(at).copied();
+            let later = table[i + 1][at];
+            again = cell_of(self.items[i], byte, later, after, again);
+            after = later;
+            table[i][at] = again;
+        }
     }
-}
 
-// Row i from row i + 1, from the end of the name back.
-fn fill_row(items: &[Item], name: &[u8], i: usize, table: &mut [u16])
-    requires sizes { (length name.now ≤ 255) × ((256 * (length items.now + 1) ≤ length table.old) × (i < length items.now)) }
-    requires later { Row items.now name.now table.old (i + 1) }
-    ensures row { Row items.now name.now table.new i }
-    ensures same { (q : ℕ) → 256 * (i + 1) ≤ q → slice_index table.new q ≡ slice_index table.old q }
-{
-    let mut a = name.len() + 1;
-    while a > 0 {
-        a -= 1;
-        let made = cell_at(items, name, table, i, a);
-        table[256 * i + a] = made;
+    // The row behind the last item: nothing is left to take just at the end of the name.
+    fn last_row(&self) -> Cells
+        ensures { RowOf self.now.items.now self.now.name.now (length self.now.items.now) result }
+    {
+        let mut row = [None; PLACES];
+        row[self.name.len()] = Some(0);
+        row
     }
-}
 
-// The row behind the last item: nothing is left to take just at the end of the name.
-fn last_row(items: &[Item], name: &[u8], table: &mut [u16])
-    requires { (length name.now ≤ 255) × (256 * (length items.now + 1) ≤ length table.old) }
-    ensures { Row items.now name.now table.new (length items.now) }
-{
-    let base = 256 * items.len();
-    for a in 0..name.len() {
-        table[base + a] = 0;
-    }
-    table[base + name.len()] = 1;
-}
-
-// Fills the table, row by row from the last: one cell for each item and each place of the name, each from three others.
-pub(crate) fn fill(items: &[Item], name: &[u8], table: &mut [u16])
-    requires { (length name.now ≤ 255) × (256 * (length items.now + 1) ≤ length table.old) }
-    ensures { (i : ℕ) → i ≤ length items.now → Row items.now name.now table.new i }
-{
-    last_row(items, name, table);
-    let mut i = items.len();
-    while i > 0 {
-        i -= 1;
-        fill_row(items, name, i, table);
+    // Fills the table, row by row from the last, which stands behind the items: each cell from three others.
+    pub(crate) fn fill(&self, table: &mut [Cells])
+        requires { length self.now.items.now < length table.old }
+        ensures { (i : ℕ) → i ≤ length self.now.items.now → Row self.now.items.now self.now.name.now table.new i }
+    {
+        let count = self.items.len();
+        table[count] = self.last_row();
+        // by number, since each row is filled from the one behind it
+        for i in (0..count).rev() {
+            self.fill_row(i, table);
+        }
     }
 }

@@ -1,68 +1,80 @@
-ghost use Rattle.std.specs.Prelude.{◌≡◌, ℕ, ◌+◌, ◌<◌, ◌≤◌, List, length, take, drop, MatchOption, slice_index};
-ghost use Rattle.matching.specs.Reader.{read_from, items_of, seen, after, passed};
+ghost use Rattle.std.specs.Prelude.{◌≡◌, ℕ, ◌+◌, ◌<◌, ◌≤◌, List, length, None, IfSome, MatchOption, take, slice_index, slice_set};
+ghost use Rattle.plain.specs.Reading.{reads, ahead, short_items};
 
+use crate::reader::Reader;
 use crate::reading::{atom, times};
+use crate::text::LONGEST_TEXT;
 use matching::Item;
 
+// How deep groups may be.
 const DEEPEST: usize = 16;
 
-// Reads up to the end of the group or of the text; groups inside may be `left` deep. Answers where it stops, the next
-// group's number, and how many items stand in `out`.
-fn inside(
-    text: &[u8],
-    from: usize,
-    left: usize,
-    first: u8,
-    out: &mut [Item],
-    start: usize,
-) -> Option<(usize, u8, usize)>
-    requires sizes { (length text.now ≤ 96) × ((length text.now ≤ length out.old) × (left ≤ 16)) }
-    requires places { (start ≤ from) × ((from ≤ length text.now) × (first ≤ from + 1)) }
-    ensures within { MatchOption result (0 ≤ 0) (λ p. (from ≤ p.0) × (p.0 ≤ length text.now) × (p.1 ≤ p.0 + 1) × (p.2 ≤ p.0)) }
-    ensures stops { MatchOption result (0 ≤ 0) (λ p. (p.0 < length text.now → slice_index text.now p.0 ≡ 41)) }
-    ensures reads { (ks : List ℕ) → length ks + left ≡ 16 → after (take start out.old) (read_from 0 ks first (drop from text.now)) ≡ passed result out.new ks text.now }
-{
-    let mut groups = first;
-    let mut len = start;
-    let mut i = from;
-    while i < text.len() && text[i] != b')' {
-        if text[i] == b'(' {
-            if left == 0 {
-                return None;
-            }
-            let number = groups;
-            out[len] = Item::Open(number);
-            let (end, more, filled) = inside(text, i + 1, left - 1, groups + 1, out, len + 1)?;
-            if end == text.len() {
-                return None;
-            }
-            out[filled] = Item::Close(number);
-            groups = more;
-            len = filled + 1;
-            i = end + 1;
-        } else {
-            let Some((set, further)) = atom(text, i) else {
-                return None;
-            };
-            let (often, used) = times(text, i + 1 + further);
-            out[len] = Item::Take(set, often);
-            len += 1;
-            i += 1 + further + used;
-        }
+impl<'a> Reader<'a> {
+    // Adds an item, behind which `rest` is left.
+    fn add(&mut self, item: Item, rest: &'a [u8])
+        requires { length rest.now < length self.old.rest.now }
+        ensures items { self.new.items ≡ slice_set self.old.items self.old.len item }
+        ensures len { self.new.len ≡ self.old.len + 1 }
+        ensures rest { self.new.rest.now ≡ rest.now }
+        ensures groups { self.new.groups ≡ self.old.groups }
+    {
+        self.items[self.len] = item;
+        self.len += 1;
+        self.rest = rest;
     }
-    Some((i, groups, len))
+
+    // Reads up to the end of the group or of the text; groups inside may be `left` deep.
+    fn inside(&mut self, left: usize) -> Option<()>
+        requires { left ≤ 16 }
+        ensures shorter { length self.new.rest.now ≤ length self.old.rest.now }
+        ensures stops { IfSome result (λ _. 0 < length self.new.rest.now → slice_index self.new.rest.now 0 ≡ 41) }
+        ensures reads { (ks : List ℕ) → length ks + left ≡ 16 → MatchOption result (ahead ks self.old ≡ None) (λ _. ahead ks self.old ≡ ahead ks self.new) }
+    {
+        while let [first, after @ ..] = self.rest {
+            match *first {
+                b')' => return Some(()),
+                b'(' => {
+                    let left = left.checked_sub(1)?;
+                    let number = self.groups;
+                    self.add(Item::Open(number), after);
+                    self.groups += 1;
+                    self.inside(left)?;
+                    let [_, behind @ ..] = self.rest else {
+                        return None;
+                    };
+                    self.add(Item::Close(number), behind);
+                }
+                _ => {
+                    let (set, further) = atom(self.rest)?;
+                    let (often, used) = times(&after[further..]);
+                    self.add(Item::Take(set, often), &after[further + used..]);
+                }
+            }
+        }
+        Some(())
+    }
+
+    // The items that are read.
+    pub(crate) fn items(&self) -> &[Item]
+        ensures { result.now ≡ take self.now.len self.now.items }
+    {
+        &self.items[..self.len]
+    }
 }
 
-// Reads a pattern into `out`: how many items it has, and its group count.
-pub(crate) fn read(text: &[u8], out: &mut [Item]) -> Option<(usize, u8)>
-    requires { (length text.now ≤ 96) × (length text.now ≤ length out.old) }
-    ensures within { MatchOption result (0 ≤ 0) (λ p. p.0 ≤ length text.now) }
-    ensures items { seen result out.new ≡ items_of text.now }
+// Reads a pattern: its items and its group count.
+pub(crate) fn read(text: &[u8]) -> Option<Reader<'_>>
+    ensures { reads result ≡ short_items text.now }
 {
-    let (end, groups, len) = inside(text, 0, DEEPEST, 1, out, 0)?;
-    if end == text.len() {
-        Some((len, groups))
-    } else {
-        None
+    if text.len() > LONGEST_TEXT {
+        return None;
     }
+    let mut reader = Reader {
+        rest: text,
+        groups: 1,
+        items: [Item::Open(0); LONGEST_TEXT],
+        len: 0,
+    };
+    reader.inside(DEEPEST)?;
+    reader.rest.is_empty().then_some(reader)
 }

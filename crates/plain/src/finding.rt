@@ -1,24 +1,31 @@
-ghost use Rattle.std.specs.Prelude.{◌≡◌, ℕ, ◌+◌, ◌*◌, ◌<◌, ◌≤◌, true, length, is_some, if◌then◌else◌, None, Option, nat_le};
+ghost use Rattle.std.specs.Prelude.{◌≡◌, ℕ, ◌<◌, ◌≤◌, true, length, is_some, if◌then◌else◌, None, Option, nat_le, slice_set};
 ghost use Rattle.matching.specs.Best.{best, at_end};
 ghost use Rattle.matching.specs.Items.{as_seq};
 ghost use Rattle.matching.specs.Places.{ended, placed, match_in};
 ghost use Rattle.matching.specs.Cells.{Row, marked, takes_of};
 
-use crate::cells::fill;
+use crate::found::NUMBERS;
+use crate::search::{Cells, PLACES, Search};
+use crate::text::LONGEST_TEXT;
+use engine::LONGEST_NAME;
 use matching::Item;
 
-// A row for each item and one behind, with 256 places each.
-const CELLS: usize = 24832;
-
-// The most groups that 96 bytes can have, and the whole name.
-pub(crate) const NUMBERS: usize = 49;
+// A row for each item, as many as a text can have bytes, and one behind.
+const ROWS: usize = LONGEST_TEXT + 1;
 
 fn ended_at(at: u8, place: Option<(u8, u8)>) -> Option<(u8, u8)>
     ensures { result ≡ ended at place }
 {
-    match place {
-        Some((from, _)) => Some((from, at)),
-        None => None,
+    place.map(|(from, _)| (from, at))
+}
+
+// Notes a place by its number, where there is such a number. By index: with `get_mut` goals of the proof stayed open.
+fn note(k: u8, place: Option<(u8, u8)>, places: &mut [Option<(u8, u8)>])
+    ensures { places.new ≡ slice_set places.old k place }
+{
+    let k = usize::from(k);
+    if k < places.len() {
+        places[k] = place;
     }
 }
 
@@ -27,32 +34,28 @@ fn mark(item: Item, at: u8, places: &mut [Option<(u8, u8)>])
     ensures { places.new ≡ marked item at places.old }
 {
     match item {
-        Item::Open(k) => {
-            if (k as usize) < places.len() {
-                places[k as usize] = Some((at, at));
-            }
-        }
+        Item::Open(k) => note(k, Some((at, at)), places),
         Item::Close(k) => {
-            if (k as usize) < places.len() {
-                let opened = places[k as usize];
-                places[k as usize] = ended_at(at, opened);
-            }
+            let opened = places.get(usize::from(k)).copied().flatten();
+            note(k, ended_at(at, opened), places)
         }
         Item::Take(_, _) => {}
     }
 }
 
-// Goes through a name that is matched: each item takes what the table says.
-fn follow(items: &[Item], name: &[u8], table: &[u16], places: &mut [Option<(u8, u8)>])
-    requires sizes { (length name.now ≤ 255) × (256 * (length items.now + 1) ≤ length table.now) }
-    requires matched { is_some (best (as_seq items.now) at_end name.now) ≡ true }
-    requires rows { (i : ℕ) → i ≤ length items.now → Row items.now name.now table.now i }
-    ensures { places.new ≡ placed (takes_of items.now name.now) (as_seq items.now) 0 places.old }
-{
-    let mut at = 0;
-    for i in 0..items.len() {
-        mark(items[i], at as u8, places);
-        at += (table[256 * i + at] - 1) as usize;
+impl Search<'_> {
+    // Goes through a name that is matched: each item takes what the table says.
+    fn follow(&self, table: &[Cells], places: &mut [Option<(u8, u8)>])
+        requires each { length self.now.items.now < length table.now }
+        requires matched { is_some (best (as_seq self.now.items.now) at_end self.now.name.now) ≡ true }
+        requires rows { (i : ℕ) → i ≤ length self.now.items.now → Row self.now.items.now self.now.name.now table.now i }
+        ensures { places.new ≡ placed (takes_of self.now.items.now self.now.name.now) (as_seq self.now.items.now) 0 places.old }
+    {
+        let mut at = 0;
+        for (i, item) in self.items.iter().enumerate() {
+            mark(*item, at, places);
+            at += table[i][usize::from(at)].unwrap();
+        }
     }
 }
 
@@ -61,16 +64,16 @@ pub(crate) fn find(items: &[Item], name: &[u8]) -> Option<[Option<(u8, u8)>; NUM
     requires { length items.now ≤ 96 }
     ensures { result ≡ (if nat_le (length name.now) 255 then match_in 49 (as_seq items.now) name.now else None) }
 {
-    if name.len() > 255 {
+    if name.len() > LONGEST_NAME {
         return None;
     }
-    let mut table = [0u16; CELLS];
-    fill(items, name, &mut table);
-    if table[0] == 0 {
-        return None;
-    }
+    let search = Search { items, name };
+    let mut table = [[None; PLACES]; ROWS];
+    search.fill(&mut table);
+    table[0][0]?;
     let mut places = [None; NUMBERS];
+    // a name has at most 255 bytes here, so that `try_from` would have nothing to refuse
     places[0] = Some((0, name.len() as u8));
-    follow(items, name, &table, &mut places);
+    search.follow(&table, &mut places);
     Some(places)
 }

@@ -7,7 +7,9 @@ mod finding;
 mod found;
 mod look;
 mod plain_engine;
+mod reader;
 mod reading;
+mod search;
 mod slots;
 mod text;
 

@@ -6,29 +6,21 @@ use crate::descent::read;
 use crate::finding::find;
 use crate::found::PlainMatch;
 use engine::{Span, Spans};
-use matching::Item;
 
 fn as_span(place: Option<(u8, u8)>) -> Option<Span>
     ensures { result ≡ as_span place }
 {
-    match place {
-        Some((from, to)) => Some(Span {
-            from: from as usize,
-            to: to as usize,
-        }),
-        None => None,
-    }
+    place.map(|(from, to)| Span {
+        from: usize::from(from),
+        to: usize::from(to),
+    })
 }
 
 impl Spans for PlainMatch {
     ghost listed = { listing };
 
     fn at(&self, k: usize) -> Option<Span> {
-        if k < self.count {
-            as_span(self.places[k])
-        } else {
-            None
-        }
+        as_span(*self.places[..self.count].get(k)?)
     }
 }
 
@@ -45,32 +37,17 @@ impl PlainMatch {
 pub fn count_groups(text: &[u8]) -> Option<usize>
     ensures { result ≡ plain_count text.now }
 {
-    if text.len() > 96 {
-        return None;
-    }
-    let mut items = [Item::Open(0); 96];
-    match read(text, &mut items) {
-        Some((_, count)) => Some(count as usize),
-        None => None,
-    }
+    Some(usize::from(read(text)?.groups))
 }
 
 // The match of a pattern with a whole name, if there is one.
 pub fn match_name(text: &[u8], name: &[u8]) -> Option<PlainMatch>
     ensures { seen_match listing result ≡ plain_spans text.now name.now }
 {
-    if text.len() > 96 {
-        return None;
-    }
-    let mut items = [Item::Open(0); 96];
-    let Some((len, count)) = read(text, &mut items) else {
-        return None;
-    };
-    match find(&items[0..len], name) {
-        Some(places) => Some(PlainMatch {
-            places,
-            count: count as usize,
-        }),
-        None => None,
-    }
+    let pattern = read(text)?;
+    let places = find(pattern.items(), name)?;
+    Some(PlainMatch {
+        places,
+        count: usize::from(pattern.groups),
+    })
 }

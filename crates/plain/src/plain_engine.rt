@@ -1,13 +1,14 @@
-ghost use Rattle.std.specs.Prelude.{◌≡◌, ℕ, ◌<◌, length, None, MatchOption, OnSome};
+ghost use Rattle.std.specs.Prelude.{◌≡◌, ℕ, ◌<◌, length, Some, None, MatchOption, MatchResult};
 ghost use Rattle.engine.specs.Holdings.{one};
-ghost use Rattle.plain.specs.Texts.{text_in};
+ghost use Rattle.engine.specs.declared.error.PatternError.TheVariants.{NothingHeld};
+ghost use Rattle.plain.specs.Texts.{text_in, chars};
 ghost use Rattle.plain.specs.Slots.{held_in};
 ghost use Rattle.plain.specs.Laws.{plain_view};
 
 use crate::found::PlainMatch;
 use crate::look::{count_groups, match_name};
-use crate::slots::{PlainEngine, Slot};
-use crate::text::{Text, copied};
+use crate::slots::{HOLDINGS, PlainEngine};
+use crate::text::Text;
 use engine::{Leave, PatternEngine, PatternError};
 
 impl PlainEngine {
@@ -15,36 +16,30 @@ impl PlainEngine {
     pub fn new() -> PlainEngine
         ensures { (k : ℕ) → (plain_view result).held k ≡ None }
     {
-        let slot = Slot {
-            text: Text::empty(),
-            used: false,
-        };
-        PlainEngine { slots: [slot; 16] }
-    }
-}
-
-// The first place that is free.
-fn free(slots: &[Slot]) -> Option<usize>
-    ensures { MatchOption result ((k : ℕ) → k < length slots.now → one (held_in slots.now k) ≡ 1) (λ i. (i < length slots.now) × (held_in slots.now i ≡ None)) }
-{
-    for i in 0..slots.len() {
-        if !slots[i].used {
-            return Some(i);
+        PlainEngine {
+            slots: [None; HOLDINGS],
         }
     }
-    None
 }
 
-// The text that a number holds.
-fn text_at(slots: &[Slot], number: usize) -> Option<Text>
-    ensures held { text_in result ≡ held_in slots.now number }
-    ensures place { OnSome result (number < length slots.now) }
+// The first place that is free. The answer list has the same line over its own places: one function for both would be
+// no plainer.
+fn free(slots: &[Option<Text>]) -> Option<usize>
+    ensures { MatchOption result ((k : ℕ) → k < length slots.now → one (held_in slots.now k) ≡ 1) (λ i. (i < length slots.now) × (held_in slots.now i ≡ None)) }
 {
-    if number >= slots.len() {
-        return None;
-    }
-    let slot = slots[number];
-    if slot.used { Some(slot.text) } else { None }
+    slots.iter().position(|slot| slot.is_none())
+}
+
+// The text that a number holds. The answer list has the same chain over its own places: one function for both would be
+// no plainer.
+fn text_at(slots: &[Option<Text>], number: usize) -> Result<Text, PatternError>
+    ensures { MatchResult result (λ t. (number < length slots.now) × (held_in slots.now number ≡ Some (chars t))) (λ e. (held_in slots.now number ≡ None) × (e ≡ NothingHeld)) }
+{
+    slots
+        .get(number)
+        .copied()
+        .flatten()
+        .ok_or(PatternError::NothingHeld)
 }
 
 impl PatternEngine for PlainEngine {
@@ -53,32 +48,17 @@ impl PatternEngine for PlainEngine {
     ghost view = { plain_view };
 
     fn hold(&mut self, text: &[u8], _leave: Leave) -> Result<usize, PatternError> {
-        let Some(kept) = copied(text) else {
-            return Err(PatternError::InvalidPattern);
-        };
-        if count_groups(text).is_none() {
-            return Err(PatternError::InvalidPattern);
-        }
-        match free(&self.slots) {
-            Some(i) => {
-                self.slots[i] = Slot {
-                    text: kept,
-                    used: true,
-                };
-                Ok(i)
-            }
-            None => Err(PatternError::EngineFull),
-        }
+        let kept = Text::new(text).ok_or(PatternError::InvalidPattern)?;
+        count_groups(text).ok_or(PatternError::InvalidPattern)?;
+        let number = free(&self.slots).ok_or(PatternError::EngineFull)?;
+        self.slots[number] = Some(kept);
+        Ok(number)
     }
 
     fn release(&mut self, number: usize) -> Result<(), PatternError> {
-        match text_at(&self.slots, number) {
-            Some(_) => {
-                self.slots[number].used = false;
-                Ok(())
-            }
-            None => Err(PatternError::NothingHeld),
-        }
+        text_at(&self.slots, number)?;
+        self.slots[number] = None;
+        Ok(())
     }
 
     fn emptied(self) -> PlainEngine {
@@ -90,19 +70,12 @@ impl PatternEngine for PlainEngine {
     }
 
     fn count(&self, number: usize) -> Result<usize, PatternError> {
-        match text_at(&self.slots, number) {
-            Some(text) => match count_groups(text.as_slice()) {
-                Some(n) => Ok(n),
-                None => Err(PatternError::InvalidPattern),
-            },
-            None => Err(PatternError::NothingHeld),
-        }
+        let text = text_at(&self.slots, number)?;
+        count_groups(text.as_slice()).ok_or(PatternError::InvalidPattern)
     }
 
     fn matched(&self, number: usize, name: &[u8]) -> Result<Option<PlainMatch>, PatternError> {
-        match text_at(&self.slots, number) {
-            Some(text) => Ok(match_name(text.as_slice(), name)),
-            None => Err(PatternError::NothingHeld),
-        }
+        let text = text_at(&self.slots, number)?;
+        Ok(match_name(text.as_slice(), name))
     }
 }

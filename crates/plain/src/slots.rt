@@ -2,15 +2,12 @@ ghost use Rattle.std.specs.Prelude.{◌≡◌, length};
 
 use crate::text::Text;
 
-#[derive(Clone, Copy)]
-pub struct Slot {
-    pub(crate) text: Text,
-    pub(crate) used: bool,
-}
+// How many texts an engine holds at most.
+pub(crate) const HOLDINGS: usize = 16;
 
 // The plain engine: a place for each of its numbers.
 #[derive(Drop)]
 pub struct PlainEngine {
-    pub(crate) slots: [Slot; 16],
+    pub(crate) slots: [Option<Text>; HOLDINGS],
     ghost sixteen: { length slots ≡ 16 },
 }

@@ -6,38 +6,26 @@ use Rattle.templates.specs.Views.{seen}
 use Rattle.displays.proofs.Sequel.{definition_refused, refused_by, accepted_by, rest_exact, rest_pattern}
 use Rattle.displays.proofs.check.check_definition.Goals as goal
 
-pub returns-in_err-display : goal.returns-in_err-display
-returns-in_err-display g c =
+pub returns-in_err-display-clause-refusal : goal.returns-in_err-display-clause-refusal
+returns-in_err-display-clause-refusal g c =
     let p = err_from_is_err_and c.from_residual.result c.from_residual.ensures.1 in
-    record {
-      fixed = record { rules = refl; sizes = refl };
-      refusal = rw (p.1, p.2) (definition_refused (g.E.PatternEngine.view c.args.engine.now) c.args.matcher.now c.args.template.now _ c.in_err-display.ensures);
-      cases = rw p.1 (λ k. refl);
-    }
+    rw (p.1, p.2) (definition_refused (g.E.PatternEngine.view c.args.engine.now) c.args.matcher.now c.args.template.now _ c.in_err-display.ensures)
 
-pub returns-in_err-check_captures-in-Exact : goal.returns-in_err-check_captures-in-Exact
-returns-in_err-check_captures-in-Exact g c =
+pub returns-in_err-check_captures-in-Exact-clause-refusal : goal.returns-in_err-check_captures-in-Exact-clause-refusal
+returns-in_err-check_captures-in-Exact-clause-refusal g c =
     let p = err_from_is_err_and c.from_residual-in_err-check_captures-in-Exact.result c.from_residual-in_err-check_captures-in-Exact.ensures.1 in
     let v = g.E.PatternEngine.view c.args.engine.now in
     let d = c.in_ok-display.display in
     let e = rest_exact v (matched d.matcher) c.args.template.now (ap is_pattern c.in-Exact.is) in
-    record {
-      fixed = record { rules = refl; sizes = refl };
-      refusal = rw (p.1, p.2) (refused_by v c.args.matcher.now c.args.template.now (matched d.matcher) (seen d.formatter) _ c.in_ok-display.ensures (ap result_err c.in_err-check_captures-in-Exact.ensures ∙ sym (ap result_err e)));
-      cases = rw p.1 (λ k. refl);
-    }
+    rw (p.1, p.2) (refused_by v c.args.matcher.now c.args.template.now (matched d.matcher) (seen d.formatter) _ c.in_ok-display.ensures (ap result_err c.in_err-check_captures-in-Exact.ensures ∙ sym (ap result_err e)))
 
-pub returns-in_err-ticket-in-Regex : goal.returns-in_err-ticket-in-Regex
-returns-in_err-ticket-in-Regex g c =
+pub returns-in_err-ticket-in-Regex-clause-refusal : goal.returns-in_err-ticket-in-Regex-clause-refusal
+returns-in_err-ticket-in-Regex-clause-refusal g c =
     let p = err_from_is_err_and c.from_residual-in_err-ticket-in-Regex.result c.from_residual-in_err-ticket-in-Regex.ensures.1 in
     let v = g.E.PatternEngine.view c.args.engine.now in
     let d = c.in_ok-display.display in
     let e = rest_pattern v (matched d.matcher) c.args.template.now (ap is_pattern c.in-Regex.is) in
-    record {
-      fixed = c.check_pattern.ensures.fixed;
-      refusal = rw (p.1, p.2) (refused_by v c.args.matcher.now c.args.template.now (matched d.matcher) (seen d.formatter) _ c.in_ok-display.ensures (c.in_err-ticket-in-Regex.ensures.refusal ∙ sym (ap result_err e)));
-      cases = rw p.1 c.in_err-ticket-in-Regex.ensures.cases;
-    }
+    rw (p.1, p.2) (refused_by v c.args.matcher.now c.args.template.now (matched d.matcher) (seen d.formatter) _ c.in_ok-display.ensures (c.in_err-ticket-in-Regex.ensures.refusal ∙ sym (ap result_err e)))
 
 pub returns-in_ok-check_captures-in-Exact : goal.returns-in_ok-check_captures-in-Exact
 returns-in_ok-check_captures-in-Exact g c =

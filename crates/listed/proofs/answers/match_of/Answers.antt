@@ -1,21 +1,13 @@
-use Rattle.std.proofs.Common.{ℕ, map, Option, sym, ap, ◌∙◌}
-use Rattle.listed.specs.Firsts.{spans_with}
-use Rattle.listed.specs.Keeping.{kept-count, kept_spans}
+use Rattle.std.proofs.Common.{map, Some, None, sym, ◌∙◌}
 use Rattle.listed.specs.Seen.{fact}
-use Rattle.listed.proofs.Steps.{count_at_lem}
+use Rattle.listed.proofs.Steps.{by_count}
 use Rattle.listed.proofs.answers.match_of.Goals as goal
 
-pub returns-in-Some : goal.returns-in-Some
-returns-in-Some c =
-    let fs = map fact c.args.rows.now in
-    let t = c.args.text.now in
-    let name = c.args.name.now in
-    let g = c.in-Some.ensures in
-    c.spans_of.ensures ∙ sym (kept_spans fs t name ∙ ap (λ (o : Option ℕ). spans_with o fs t name) (sym (kept-count fs t) ∙ g.told.1 ∙ count_at_lem c.args.rows.now c.in-Some.i g.place))
+pub returns-in_err-count : goal.returns-in_err-count
+returns-in_err-count c = rw c.from_residual.ensures (sym (by_count (map fact c.args.rows.now) c.args.text.now c.args.name.now None c.in_err-count.ensures))
 
-pub returns-in-None : goal.returns-in-None
-returns-in-None c =
-    let fs = map fact c.args.rows.now in
-    let t = c.args.text.now in
-    let name = c.args.name.now in
-    sym (kept_spans fs t name ∙ ap (λ (o : Option ℕ). spans_with o fs t name) (sym (kept-count fs t) ∙ c.in-None.ensures.told))
+pub returns-in_err-row : goal.returns-in_err-row
+returns-in_err-row c = rw c.from_residual-in_err-row.ensures (sym (by_count (map fact c.args.rows.now) c.args.text.now c.args.name.now (Some _) c.in_ok-count.ensures.1 ∙ c.in_err-row.ensures))
+
+pub returns : goal.returns
+returns c = sym (by_count (map fact c.args.rows.now) c.args.text.now c.args.name.now (Some _) c.in_ok-count.ensures.1 ∙ c.in_ok-row.ensures)
