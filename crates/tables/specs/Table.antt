@@ -7,7 +7,7 @@ use Rattle.tables.specs.declared.table.Table.{Table}
 use Rattle.tables.specs.Rows.{name_at, children_at, Lawful}
 
 abbrev pub table_view : Table → Source
-table_view s = source_of s.count (name_at s.rows.now) (children_at s.rows.now) s.short s.below
+table_view s = source_of (length s.rows.now) (name_at s.rows.now) (children_at s.rows.now) s.short s.below
 
 -- the rows open as a source
 abbrev pub Opened : List Row → Source → Type 0

@@ -4,18 +4,13 @@ ghost use Rattle.tables.specs.Rows.{Smaller, LawfulRow, Lawful};
 
 use crate::rows::Row;
 use refusal::ParseError;
-use terms::{LONGEST_NAME, PrintError};
+use terms::{LONGEST_NAME, PrintError, check_beginning};
 
 // Whether each child has a smaller number than `t`.
 fn smaller(children: &[usize], t: usize) -> bool
     ensures { Decides result (Smaller t children.now) }
 {
-    for c in children {
-        if *c >= t {
-            return false;
-        }
-    }
-    true
+    children.iter().all(|c| *c < t)
 }
 
 // Whether a row may stand at `t`.
@@ -29,8 +24,8 @@ fn lawful(row: &Row<'_>, t: usize) -> bool
 pub(crate) fn beginning(rows: &[Row<'_>]) -> usize
     ensures { Beginning (Lawful rows.now) (length rows.now) result }
 {
-    for t in 0..rows.len() {
-        if !lawful(&rows[t], t) {
+    for (t, row) in rows.iter().enumerate() {
+        if !lawful(row, t) {
             return t;
         }
     }
@@ -41,13 +36,5 @@ pub(crate) fn beginning(rows: &[Row<'_>]) -> usize
 pub fn check_table(rows: &[Row<'_>]) -> Result<(), ParseError<PrintError>>
     ensures { Checked (Lawful rows.now) (length rows.now) result }
 {
-    let place = beginning(rows);
-    if place < rows.len() {
-        return Err(ParseError {
-            place,
-            length: 0,
-            kind: PrintError::BadTerm,
-        });
-    }
-    Ok(())
+    check_beginning(beginning(rows), rows.len())
 }

@@ -3,15 +3,16 @@ ghost use Rattle.tables.specs.Table.{table_view, Opened};
 use crate::check::beginning;
 use crate::rows::Row;
 use crate::table::Table;
-use terms::{TermSource, byte_at, number_at};
+use terms::TermSource;
 
 impl<'a> Table<'a> {
     // Opens the rows before the first bad one.
     pub fn open(rows: &'a [Row<'a>]) -> Table<'a>
         ensures { Opened rows.now (table_view result) }
     {
-        let count = beginning(rows);
-        Table { rows, count }
+        Table {
+            rows: &rows[..beginning(rows)],
+        }
     }
 }
 
@@ -19,37 +20,23 @@ impl TermSource for Table<'_> {
     ghost view = { table_view };
 
     fn count(&self) -> usize {
-        self.count
+        self.rows.len()
     }
 
     fn name_len(&self, t: usize) -> Option<usize> {
-        if t < self.count {
-            Some(self.rows[t].name.len())
-        } else {
-            None
-        }
+        Some(self.rows.get(t)?.name.len())
     }
 
     fn name_byte(&self, t: usize, i: usize) -> Option<u8> {
-        if t >= self.count {
-            return None;
-        }
-        byte_at(self.rows[t].name, i)
+        self.rows.get(t)?.name.get(i).copied()
     }
 
     fn child_count(&self, t: usize) -> Option<usize> {
-        if t < self.count {
-            Some(self.rows[t].children.len())
-        } else {
-            None
-        }
+        Some(self.rows.get(t)?.children.len())
     }
 
     fn child(&self, t: usize, i: usize) -> Option<usize> {
-        if t >= self.count {
-            return None;
-        }
-        number_at(self.rows[t].children, i)
+        self.rows.get(t)?.children.get(i).copied()
     }
 }
 

@@ -1,4 +1,3 @@
 pub mod Laid
-pub mod Steps
-pub mod Views
 pub mod Postfix
+pub mod Cut

@@ -4,7 +4,7 @@ ghost use Rattle.tapes.specs.Nodes.{LawfulNode, Lawful};
 
 use crate::nodes::Node;
 use refusal::ParseError;
-use terms::{LONGEST_NAME, PrintError};
+use terms::{LONGEST_NAME, PrintError, check_beginning};
 
 // Whether a node may stand after so many subtrees.
 fn lawful(node: &Node<'_>, roots: usize) -> bool
@@ -18,11 +18,11 @@ pub(crate) fn beginning(nodes: &[Node<'_>]) -> usize
     ensures { Beginning (Lawful nodes.now) (length nodes.now) result }
 {
     let mut roots: usize = 0;
-    for t in 0..nodes.len() {
-        if !lawful(&nodes[t], roots) {
+    for (t, node) in nodes.iter().enumerate() {
+        if !lawful(node, roots) {
             return t;
         }
-        roots = roots - nodes[t].children + 1;
+        roots = roots - node.children + 1;
     }
     nodes.len()
 }
@@ -31,13 +31,5 @@ pub(crate) fn beginning(nodes: &[Node<'_>]) -> usize
 pub fn check_tape(nodes: &[Node<'_>]) -> Result<(), ParseError<PrintError>>
     ensures { Checked (Lawful nodes.now) (length nodes.now) result }
 {
-    let place = beginning(nodes);
-    if place < nodes.len() {
-        return Err(ParseError {
-            place,
-            length: 0,
-            kind: PrintError::BadTerm,
-        });
-    }
-    Ok(())
+    check_beginning(beginning(nodes), nodes.len())
 }

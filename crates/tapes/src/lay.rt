@@ -1,16 +1,9 @@
-ghost use Rattle.std.specs.Prelude.{◌≡◌, ℕ, ◌+◌, ◌<◌, ◌≤◌, ◌++◌, length, take, drop, IfOk, vec_len, OnOk};
-ghost use Rattle.tapes.specs.Laid.{kids_before, Starts};
-ghost use Rattle.tapes.specs.Nodes.{count_at, Lawful};
+ghost use Rattle.std.specs.Prelude.{◌≡◌, ℕ, ◌+◌, ◌*◌, ◌<◌, ◌≤◌, ◌++◌, length, take, drop, IfOk, vec_len, OnOk};
+ghost use Rattle.tapes.specs.Nodes.{Lawful};
 
 use crate::nodes::Node;
+use crate::tape::Tape;
 use std::alloc::{AllocError, Global};
-
-// The children of all terms, one term after the other, and where those of each start.
-#[derive(Drop)]
-pub(crate) struct Families {
-    pub(crate) starts: Vec<usize>,
-    pub(crate) kids: Vec<usize>,
-}
 
 // Moves the roots from `first` on to the children.
 fn move_last(roots: &mut Vec<usize>, first: usize, kids: &mut Vec<usize>) -> Result<(), AllocError>
@@ -23,22 +16,24 @@ fn move_last(roots: &mut Vec<usize>, first: usize, kids: &mut Vec<usize>) -> Res
     Ok(())
 }
 
-// Lays out the children of the first `count` terms.
-pub(crate) fn lay(heap: Global, nodes: &[Node<'_>], count: usize) -> Result<Families, AllocError>
-    requires within { count ≤ length nodes.now }
-    requires lawful { (t : ℕ) → t < count → Lawful nodes.now t }
-    ensures count { IfOk result (λ f. vec_len f.starts ≡ count) }
-    ensures starts { IfOk result (λ f. Starts (count_at nodes.now) count f.starts.items) }
-    ensures kids { IfOk result (λ f. f.kids.items ≡ kids_before (count_at nodes.now) count) }
+// Lays out the children of the terms, which are lawful.
+pub(crate) fn lay<'a>(heap: Global, nodes: &'a [Node<'a>]) -> Result<Tape<'a>, AllocError>
+    requires { (t : ℕ) → t < length nodes.now → Lawful nodes.now t }
+    ensures nodes { IfOk result (λ s. s.nodes.now ≡ nodes.now) }
+    ensures room { IfOk result (λ s. vec_len s.starts + vec_len s.kids ≤ 2 * length nodes.now) }
 {
     let mut roots = Vec::new(heap);
     let mut starts = Vec::new(heap);
     let mut kids = Vec::new(heap);
-    for t in 0..count {
-        let first = roots.len() - nodes[t].children;
+    for (t, node) in nodes.iter().enumerate() {
+        let first = roots.len() - node.children;
         starts.push(kids.len())?;
         move_last(&mut roots, first, &mut kids)?;
         roots.push(t)?;
     }
-    Ok(Families { starts, kids })
+    Ok(Tape {
+        nodes,
+        starts,
+        kids,
+    })
 }

@@ -1,12 +1,12 @@
-ghost use Rattle.std.specs.Prelude.{◌+◌, ◌*◌, ◌≤◌, length, IfOk, vec_len};
+ghost use Rattle.std.specs.Prelude.{◌≡◌, ◌+◌, ◌*◌, ◌≤◌, length, IfOk, vec_len};
 ghost use Rattle.tapes.specs.Tape.{tape_view, Opened};
 
 use crate::check::beginning;
-use crate::lay::{Families, lay};
+use crate::lay::lay;
 use crate::nodes::Node;
 use crate::tape::Tape;
 use std::alloc::{AllocError, Global};
-use terms::{TermSource, byte_at};
+use terms::TermSource;
 
 impl<'a> Tape<'a> {
     // Opens the nodes before the first bad one.
@@ -14,13 +14,18 @@ impl<'a> Tape<'a> {
         ensures opens { IfOk result (λ s. Opened nodes.now (tape_view s)) }
         ensures room { IfOk result (λ s. vec_len s.starts + vec_len s.kids ≤ 2 * length nodes.now) }
     {
-        let count = beginning(nodes);
-        let Families { starts, kids } = lay(heap, nodes, count)?;
-        Ok(Tape {
-            nodes,
-            starts,
-            kids,
-        })
+        lay(heap, &nodes[..beginning(nodes)])
+    }
+
+    // The numbers of the children of a term, none where there is no such term.
+    pub(crate) fn children(&self, t: usize) -> &[usize]
+        ensures { result.now ≡ (tape_view self.now).children t }
+    {
+        let Some(node) = self.nodes.get(t) else {
+            return &[];
+        };
+        let start = self.starts[t];
+        &self.kids.as_slice()[start..start + node.children]
     }
 }
 
@@ -28,41 +33,23 @@ impl TermSource for Tape<'_> {
     ghost view = { tape_view };
 
     fn count(&self) -> usize {
-        self.starts.len()
+        self.nodes.len()
     }
 
     fn name_len(&self, t: usize) -> Option<usize> {
-        if t < self.starts.len() {
-            Some(self.nodes[t].name.len())
-        } else {
-            None
-        }
+        Some(self.nodes.get(t)?.name.len())
     }
 
     fn name_byte(&self, t: usize, i: usize) -> Option<u8> {
-        if t >= self.starts.len() {
-            return None;
-        }
-        byte_at(self.nodes[t].name, i)
+        self.nodes.get(t)?.name.get(i).copied()
     }
 
     fn child_count(&self, t: usize) -> Option<usize> {
-        if t < self.starts.len() {
-            Some(self.nodes[t].children)
-        } else {
-            None
-        }
+        Some(self.nodes.get(t)?.children)
     }
 
     fn child(&self, t: usize, i: usize) -> Option<usize> {
-        if t >= self.starts.len() {
-            return None;
-        }
-        if i >= self.nodes[t].children {
-            return None;
-        }
-        let start = self.starts[t];
-        Some(self.kids[start + i])
+        self.children(t).get(i).copied()
     }
 }
 

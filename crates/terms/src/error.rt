@@ -1,7 +1,7 @@
 ghost use Rattle.refusal.specs.declared.error.Layer.TheVariants.{Print};
 ghost use Rattle.terms.specs.Refusals.{print_number, print_name};
 
-use refusal::{Layer, Refusal};
+use refusal::{Layer, Refusal, Told};
 
 // What is wrong with what the print is given.
 #[derive(Clone, Copy, Debug, PartialEq, Eq)]
@@ -16,20 +16,10 @@ impl Refusal for PrintError {
 
     ghost within = { λ _. Print };
 
-    fn number(&self) -> u8 {
+    fn told(&self) -> Told {
         match *self {
-            PrintError::BadTerm => 23,
+            PrintError::BadTerm => Told::new(23, "BadTerm", Layer::Print),
         }
-    }
-
-    fn name(&self) -> &'static str {
-        match *self {
-            PrintError::BadTerm => "BadTerm",
-        }
-    }
-
-    fn layer(&self) -> Layer {
-        Layer::Print
     }
 }
 

@@ -2,11 +2,11 @@
 #![tactic(auto)]
 
 mod error;
-mod items;
 mod laws;
+mod opening;
 mod source;
 
 pub use error::PrintError;
-pub use items::{byte_at, number_at};
 pub use laws::agreement;
+pub use opening::check_beginning;
 pub use source::{LONGEST_NAME, TermSource};
