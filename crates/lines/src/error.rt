@@ -1,7 +1,7 @@
 ghost use Rattle.refusal.specs.declared.error.Layer.TheVariants.{Print};
 ghost use Rattle.lines.specs.Refusals.{line_number, line_name};
 
-use refusal::{Layer, Refusal};
+use refusal::{Layer, Refusal, Told};
 
 // Why a print ends before its line does.
 #[derive(Clone, Copy, Debug, PartialEq, Eq)]
@@ -25,27 +25,13 @@ impl Refusal for LineError {
 
     ghost within = { λ _. Print };
 
-    fn number(&self) -> u8 {
+    fn told(&self) -> Told {
         match *self {
-            LineError::NoSuchTerm => 34,
-            LineError::MissingChild => 35,
-            LineError::TooDeep => 36,
-            LineError::TooManyVisits => 37,
-            LineError::OutputFull => 39,
+            LineError::NoSuchTerm => Told::new(34, "NoSuchTerm", Layer::Print),
+            LineError::MissingChild => Told::new(35, "MissingChild", Layer::Print),
+            LineError::TooDeep => Told::new(36, "TooDeep", Layer::Print),
+            LineError::TooManyVisits => Told::new(37, "TooManyVisits", Layer::Print),
+            LineError::OutputFull => Told::new(39, "OutputFull", Layer::Print),
         }
-    }
-
-    fn name(&self) -> &'static str {
-        match *self {
-            LineError::NoSuchTerm => "NoSuchTerm",
-            LineError::MissingChild => "MissingChild",
-            LineError::TooDeep => "TooDeep",
-            LineError::TooManyVisits => "TooManyVisits",
-            LineError::OutputFull => "OutputFull",
-        }
-    }
-
-    fn layer(&self) -> Layer {
-        Layer::Print
     }
 }

@@ -1,14 +1,12 @@
 -- Events one after the other.
-use Rattle.std.proofs.Common.{◌≡◌, ℕ, suc, ◌+◌, ◌<◌, Bool, true, false, cond, ltb, leb, List, [], ◌∷◌, ◌++◌, length, get_or, drop, set, IsErrAnd, Some, None, Ok, Err, Option, Result, sym, refl, ap, ◌∙◌, append_assoc, add-zero, arith, length-append}
-use Rattle.std.proofs.lemmas.List.{set_at, append-nil, at_drop_more}
+use Rattle.std.proofs.Common.{◌≡◌, ℕ, suc, ◌+◌, ◌<◌, ◌≤◌, Bool, true, false, cond, ltb, leb, List, [], ◌∷◌, ◌++◌, length, get_or, take, drop, set, IsErrAnd, Some, None, Ok, Err, Option, Result, sym, refl, ap, ◌∙◌, append_assoc, arith}
+use Rattle.std.proofs.lemmas.List.{append-nil, at_drop_more, drop_all, drop_more, take_more_set, drop-set-lt}
 use Rattle.std.proofs.lemmas.Result.{err_from_is_err_and}
-use Rattle.std.proofs.lemmas.Bool.{cond-true, cond-false, lt-ltb, le-ltb}
 use Rattle.lines.specs.Cut.{Cut, cut, stopped, after, visit_limit, depth_limit}
 use Rattle.lines.specs.Events.{Event, visit, byte, missing, bytes}
 use Rattle.lines.specs.declared.error.LineError.{LineError}
 use Rattle.lines.specs.declared.error.LineError.TheVariants.{MissingChild, TooDeep, TooManyVisits, OutputFull}
-use Rattle.moves.specs.Run.{State, Outcome, at, penned, outcome, done, refused, go, then, one, run, Like}
-use Rattle.moves.specs.declared.pen.Pen.{Pen}
+use Rattle.moves.specs.Run.{State, Outcome, done, refused, go, then, inked, one, run, Like}
 
 then-then : (o : Outcome) (j k : State → Outcome) → then o (λ s. then (j s) k) ≡ then (then o j) k
 then-then o j k = by o.state o.end
@@ -29,13 +27,31 @@ pub like_append : (es es' fs fs' : List Event) → Like es es' → Like fs fs' �
 like_append es es' fs fs' p q s = run_append es fs s ∙ (λ i. then (p s i) (λ z. q z i)) ∙ sym (run_append es' fs' s)
 
 -- what a `?` returns
-pub broke : {b : List ℕ} {p : Pen} {o : Outcome} {r : Result (Unit {0}) LineError} {e : LineError} → IsErrAnd r (λ y. y ≡ e) → outcome b p (Err e) ≡ o → outcome b p r ≡ o
-broke {b} {p} {r = r} h w = let q = err_from_is_err_and r h in ap (outcome b p) (q.1 ∙ ap Err q.2) ∙ w
+abbrev pub with_end : State → Result (Unit {0}) LineError → Outcome
+with_end s r = record { state = s; end = r }
 
+pub broke : {s : State} {o : Outcome} {r : Result (Unit {0}) LineError} {e : LineError} → IsErrAnd r (λ y. y ≡ e) → with_end s (Err e) ≡ o → with_end s r ≡ o
+broke {s} {r = r} h w = let q = err_from_is_err_and r h in ap (with_end s) (q.1 ∙ ap Err q.2) ∙ w
+
+-- ---- bytes
 -- one more byte of a text
 pub byte_more : (bs : List ℕ) (i : ℕ) (s : State) {b : ℕ} {o : Outcome} → i < length bs → b ≡ get_or bs i 0 → o ≡ run (byte b ∷ []) s → then o (run (bytes (drop (i + 1) bs))) ≡ run (bytes (drop i bs)) s
 byte_more bs i s {b} lt e h =
     thence (byte b ∷ []) (bytes (drop (i + 1) bs)) s h ∙ ap (λ b. run (byte b ∷ bytes (drop (i + 1) bs)) s) e ∙ sym (at_drop_more (λ r. run (bytes r) s) bs i 0 lt)
+
+module _ (b : ℕ) (name : ℕ) (l : List ℕ) (at v : ℕ) where
+  abbrev pub at_place : State
+  at_place = record { buffer = name; page = record { written = take at l; rest = drop at l }; visits = v }
+
+  pub byte_full : length l ≤ at → refused OutputFull at_place ≡ run (byte b ∷ []) at_place
+  byte_full h = sym (ap (λ r. then (inked b at_place r) (run [])) (drop_all at l h))
+
+  pub byte_ran : at < length l → done (record { buffer = name; page = record { written = take (at + 1) (set l at b); rest = drop (at + 1) (set l at b) }; visits = v }) ≡ run (byte b ∷ []) at_place
+  byte_ran h =
+      let t : take (at + 1) (set l at b) ≡ take at l ++ b ∷ [] = take_more_set l at b h in
+      let d : drop (at + 1) (set l at b) ≡ drop (at + 1) l = drop-set-lt (at + 1) l at b (omega arith) in
+      (λ i. done (record { buffer = name; page = record { written = t i; rest = d i }; visits = v }))
+      ∙ sym (ap (λ r. then (inked b at_place r) (run [])) (drop_more l at 0 h))
 
 -- ---- the limits and the room
 abbrev pub end_of : Option LineError → Result (Unit {0}) LineError
@@ -43,42 +59,55 @@ end_of None = Ok tt
 end_of (Some e) = Err e
 
 -- what a line leaves behind the bytes w, when it is cut so
-abbrev pub leaves : List ℕ → List ℕ → Cut → Outcome
-leaves w rest c = outcome (w ++ (c.bytes ++ drop (length c.bytes) rest)) (penned (length w + length c.bytes) c.visits) (end_of c.end)
+abbrev pub leaves : ℕ → List ℕ → List ℕ → Cut → Outcome
+leaves b w rest c = record {
+  state = record { buffer = b; page = record { written = w ++ c.bytes; rest = drop (length c.bytes) rest }; visits = c.visits };
+  end = end_of c.end;
+}
 
-stays : (w rest : List ℕ) (v : ℕ) (e : Option LineError) → outcome (w ++ rest) (penned (length w) v) (end_of e) ≡ leaves w rest (record { bytes = []; visits = v; end = e })
-stays w rest v e = ap (λ n. outcome (w ++ rest) (penned n v) (end_of e)) (sym (add-zero (length w)))
+module _ (b : ℕ) where
+  abbrev pub left_at : List ℕ → List ℕ → ℕ → State
+  left_at w rest v = record { buffer = b; page = record { written = w; rest = rest }; visits = v }
 
--- a byte behind the bytes w
-grows : (w rest : List ℕ) (x b : ℕ) (c : Cut) → leaves (w ++ b ∷ []) rest c ≡ leaves w (x ∷ rest) (after b c)
-grows w rest x b c =
-    let text : (w ++ b ∷ []) ++ (c.bytes ++ drop (length c.bytes) rest) ≡ w ++ (b ∷ (c.bytes ++ drop (length c.bytes) rest)) = append_assoc w (b ∷ []) (c.bytes ++ drop (length c.bytes) rest) in
-    let size : length (w ++ b ∷ []) + length c.bytes ≡ length w + suc (length c.bytes) = simp length-append (omega arith) in
-    λ i. outcome (text i) (penned (size i) c.visits) (end_of c.end)
+  stays : (w rest : List ℕ) (v : ℕ) (e : Option LineError) → ◌≡◌ {A = Outcome} (record { state = left_at w rest v; end = end_of e }) (leaves b w rest (record { bytes = []; visits = v; end = e }))
+  stays w rest v e = ap (λ l. record { state = left_at l rest v; end = end_of e }) (sym (append-nil w))
 
-written : (w rest : List ℕ) (x b v : ℕ) → one (byte b) (at (w ++ x ∷ rest) (penned (length w) v)) ≡ done (at ((w ++ b ∷ []) ++ rest) (penned (length (w ++ b ∷ [])) v))
-written w rest x b v =
-    let room : ltb (length w) (length (w ++ x ∷ rest)) ≡ true = lt-ltb _ _ (simp length-append (omega arith)) in
-    let text : set (w ++ x ∷ rest) (length w) b ≡ (w ++ b ∷ []) ++ rest = set_at w x rest b (length w) refl ∙ sym (append_assoc w (b ∷ []) rest) in
-    let size : length w + 1 ≡ length (w ++ b ∷ []) = sym (length-append w (b ∷ [])) in
-    cond-true _ _ _ room ∙ (λ i. done (at (text i) (penned (size i) v)))
+  -- a byte behind the bytes w
+  grows : (w rest : List ℕ) (x y : ℕ) (c : Cut) → leaves b (w ++ y ∷ []) rest c ≡ leaves b w (x ∷ rest) (after y c)
+  grows w rest x y c = ap (λ l. record { state = left_at l (drop (length c.bytes) rest) c.visits; end = end_of c.end }) (append_assoc w (y ∷ []) c.bytes)
 
-full : (w : List ℕ) (b v : ℕ) → one (byte b) (at (w ++ []) (penned (length w) v)) ≡ refused OutputFull (at (w ++ []) (penned (length w) v))
-full w b v = cond-false _ _ _ (le-ltb (length w) (length (w ++ [])) (simp append-nil (omega arith)))
+  pub run-cut : (es : List Event) (w rest : List ℕ) (v : ℕ) → run es (left_at w rest v) ≡ leaves b w rest (cut (length rest) v es)
+  run-cut [] w rest v = stays w rest v None
+  run-cut (visit t d ∷ es) w rest v = by (ltb v visit_limit) (leb d depth_limit) (ap (λ n. run es (left_at w rest n)) next ∙ run-cut es w rest (suc v))
+    where
+      next : v + 1 ≡ suc v
+      next = omega arith
 
-pub run-cut : (es : List Event) (w rest : List ℕ) (v : ℕ) → run es (at (w ++ rest) (penned (length w) v)) ≡ leaves w rest (cut (length rest) v es)
-run-cut [] w rest v = stays w rest v None
-run-cut (visit t d ∷ es) w rest v = by (ltb v visit_limit) (leb d depth_limit) (ap (λ n. run es (at (w ++ rest) (penned (length w) n))) next ∙ run-cut es w rest (suc v))
+      by : (p q : Bool) → run es (left_at w rest (v + 1)) ≡ leaves b w rest (cut (length rest) (suc v) es)
+          → then (cond p (cond q (done (left_at w rest (v + 1))) (refused TooDeep (left_at w rest v))) (refused TooManyVisits (left_at w rest v))) (run es)
+          ≡ leaves b w rest (cond p (cond q (cut (length rest) (suc v) es) (stopped v TooDeep)) (stopped v TooManyVisits))
+      by true true h = h
+      by true false h = stays w rest v (Some TooDeep)
+      by false q h = stays w rest v (Some TooManyVisits)
+  run-cut (byte y ∷ es) w [] v = stays w [] v (Some OutputFull)
+  run-cut (byte y ∷ es) w (x ∷ rest) v = run-cut es (w ++ y ∷ []) rest v ∙ grows w rest x y (cut (length rest) v es)
+  run-cut (missing ∷ es) w rest v = stays w rest v (Some MissingChild)
+
+-- ---- the buffer stays the same
+abbrev visited : State → State
+visited s = record { buffer = s.buffer; page = s.page; visits = s.visits + 1 }
+
+pub same_buffer : (es : List Event) (s : State) → (run es s).state.buffer ≡ s.buffer
+same_buffer [] s = refl
+same_buffer (visit t d ∷ es) s = by (same_buffer es) (ltb s.visits visit_limit) (leb d depth_limit)
   where
-    next : v + 1 ≡ suc v
-    next = omega arith
-
-    by : (a b : Bool) → run es (at (w ++ rest) (penned (length w) (v + 1))) ≡ leaves w rest (cut (length rest) (suc v) es)
-        → then (cond a (cond b (done (at (w ++ rest) (penned (length w) (v + 1)))) (refused TooDeep (at (w ++ rest) (penned (length w) v)))) (refused TooManyVisits (at (w ++ rest) (penned (length w) v)))) (run es)
-        ≡ leaves w rest (cond a (cond b (cut (length rest) (suc v) es) (stopped v TooDeep)) (stopped v TooManyVisits))
-    by true true h = h
-    by true false h = stays w rest v (Some TooDeep)
-    by false b h = stays w rest v (Some TooManyVisits)
-run-cut (byte b ∷ es) w [] v = ap (λ o. then o (run es)) (full w b v) ∙ stays w [] v (Some OutputFull)
-run-cut (byte b ∷ es) w (x ∷ rest) v = ap (λ o. then o (run es)) (written w rest x b v) ∙ run-cut es (w ++ b ∷ []) rest v ∙ grows w rest x b (cut (length rest) v es)
-run-cut (missing ∷ es) w rest v = stays w rest v (Some MissingChild)
+    by : ((s : State) → (run es s).state.buffer ≡ s.buffer) → (p q : Bool) → (then (cond p (cond q (done (visited s)) (refused TooDeep s)) (refused TooManyVisits s)) (run es)).state.buffer ≡ s.buffer
+    by all true true = all (visited s)
+    by all true false = refl
+    by all false q = refl
+same_buffer (byte y ∷ es) s = by (same_buffer es) s.page.rest
+  where
+    by : ((s : State) → (run es s).state.buffer ≡ s.buffer) → (rest : List ℕ) → (then (inked y s rest) (run es)).state.buffer ≡ s.buffer
+    by all [] = refl
+    by all (x ∷ rest) = all (record { buffer = s.buffer; page = record { written = s.page.written ++ y ∷ []; rest = rest }; visits = s.visits })
+same_buffer (missing ∷ es) s = refl

@@ -1,17 +1,10 @@
--- The part of a name that a span has, and where a range begins and ends.
-use Rattle.std.proofs.Common.{◌≡◌, ℕ, zero, suc, ◌+◌, ◌-◌, ◌<◌, ◌≤◌, min, Bool, true, false, cond, ◌&&◌, ltb, leb, List, [], ◌∷◌, length, take, drop, Some, None, Option, sym, refl, ap, ◌∙◌, ⊎_elim, arith, length-drop}
-use Rattle.std.proofs.lemmas.List.{take_all, drop_all, take_rest}
-use Rattle.std.proofs.lemmas.Bool.{cases_lt, ltb-true, ltb-false, leb-true, leb-false}
+-- Where a range of children begins and ends, and what a source answers.
+use Rattle.std.proofs.Common.{◌≡◌, ℕ, zero, suc, ◌+◌, ◌-◌, ◌<◌, ◌≤◌, Bool, true, false, cond, ◌&&◌, ltb, leb, List, [], ◌∷◌, length, get_or, take, drop, unwrap_or, Some, None, Option, sym, refl, ap, ◌∙◌, arith}
+use Rattle.std.proofs.lemmas.Bool.{lt-ltb, ltb-true, ltb-false, leb-true, leb-false}
 use Rattle.std.proofs.lemmas.Bool.Decides.{nat_tests}
 use Rattle.lines.specs.Children.{not_before, not_behind, between, selected}
 use Rattle.moves.specs.Ends.{first_index, end_of}
-use Rattle.engine.specs.declared.span.Span.{Span}
-use Rattle.lines.specs.Chosen.{spans_by}
-use Rattle.lines.specs.Events.{captured}
-use Rattle.terms.specs.Source.{Source, size}
-
-take_none : (n : ℕ) (xs : List ℕ) → n ≡ 0 → take n xs ≡ []
-take_none n xs e = ap (λ k. take k xs) e
+use Rattle.terms.specs.Source.{Source, size, item}
 
 take_nil : (n : ℕ) → take {A = ℕ} n [] ≡ []
 take_nil zero = refl
@@ -20,30 +13,6 @@ take_nil (suc n) = refl
 drop_nil : (n : ℕ) → drop {A = ℕ} n [] ≡ []
 drop_nil zero = refl
 drop_nil (suc n) = refl
-
-pub clamped : (name : List ℕ) (from to a b : ℕ) → b ≡ min to (length name) → a ≡ min from b → take (b - a) (drop a name) ≡ take (to - from) (drop from name)
-clamped name from to a b e f =
-    ⊎_elim
-    (λ long. ⊎_elim
-    (λ past.
-    let z : b - a ≡ 0 = omega arith in
-    take_none (b - a) (drop a name) z ∙ sym (ap (take (to - from)) (drop_all from name (omega arith)) ∙ take_nil (to - from)))
-    (λ in'.
-    let x : a ≡ from = omega arith in
-    let y : b ≡ length name = omega arith in
-    (λ i. take (y i - x i) (drop (x i) name)) ∙ take_rest name from ∙ sym (take_all (to - from) (drop from name) (simp length-drop (omega arith))))
-    (cases_lt (length name) from))
-    (λ short. ⊎_elim
-    (λ past.
-    let z : b - a ≡ 0 = omega arith in
-    let y : to - from ≡ 0 = omega arith in
-    take_none (b - a) (drop a name) z ∙ sym (take_none (to - from) (drop from name) y))
-    (λ in'.
-    let x : a ≡ from = omega arith in
-    let y : b ≡ to = omega arith in
-    λ i. take (y i - x i) (drop (x i) name))
-    (cases_lt to from))
-    (cases_lt (length name) to)
 
 -- ---- a range of children
 begins : (n f c : ℕ) → not_before n f c ≡ leb (first_index n f) c
@@ -95,12 +64,12 @@ selected_part m t f g =
     ∙ (λ i. drop (minus_zero (first_index n f) i) (take (minus_zero (end_of n g) i) (m.children t)))
 
 -- ---- what is asked of a source
-pub sized : (count t n : ℕ) (xs : List ℕ) → Some n ≡ size count t xs → n ≡ length xs
-sized count t n xs e = grind (arith, nat_tests)
+pub sized : (count t n : ℕ) (xs : List ℕ) (o : Option ℕ) → o ≡ size count t xs → n ≡ unwrap_or o 0 → (count ≤ t → xs ≡ []) → n ≡ length xs
+sized count t n xs o e u h = by (ltb t count) refl
+  where
+    by : (b : Bool) → ltb t count ≡ b → n ≡ length xs
+    by true k = u ∙ ap (λ p. unwrap_or p 0) (e ∙ ap (λ b. cond b (Some (length xs)) None) k)
+    by false k = u ∙ ap (λ p. unwrap_or p 0) (e ∙ ap (λ b. cond b (Some (length xs)) None) k) ∙ sym (ap length (h (ltb-false t count k)))
 
-pub unsized : (count t : ℕ) (xs : List ℕ) → None ≡ size count t xs → (count ≤ t → xs ≡ []) → xs ≡ []
-unsized count t xs e h = h (grind (arith, nat_tests))
-
--- where no pattern was matched capture 0 is the name
-pub whole_name : {M : Type 0} (f : M → List (Option Span)) (name : List ℕ) (o : Option M) (k : ℕ) → o ≡ None → k ≡ 0 → name ≡ captured name (spans_by f (length name) o) k
-whole_name f name o k e h = sym ((λ i. captured name (spans_by f (length name) (e i)) (h i)) ∙ take_all (length name - 0) name (omega arith))
+pub itemed : (i b : ℕ) (xs : List ℕ) (o : Option ℕ) → i < length xs → o ≡ item xs i → b ≡ unwrap_or o 0 → b ≡ get_or xs i 0
+itemed i b xs o l e u = u ∙ ap (λ p. unwrap_or p 0) (e ∙ ap (λ b. cond b (Some (get_or xs i 0)) None) (lt-ltb i (length xs) l))

@@ -1,8 +1,12 @@
 -- Where a range of children begins and ends.
-use Rattle.std.specs.Prelude.{ℕ, suc, ◌-◌, Bool, false, cond, ◌||◌, List, [], ◌∷◌, nat_le, nat_lt}
+use Rattle.std.specs.Prelude.{ℕ, suc, ◌-◌, Bool, false, cond, ◌||◌, List, [], ◌∷◌, Some, None, Option, nat_le, nat_lt}
 use Rattle.lines.specs.Children.{negative, back}
 use Rattle.wire.specs.declared.commands.Command.{Command}
 use Rattle.wire.specs.declared.commands.Command.TheVariants.{End, Power, Byte, Step, Child, Range, Capture}
+
+-- the place that an index means among n children, which may be behind the last; none before the first
+abbrev pub counted : ℕ → ℕ → Option ℕ
+counted n i = cond (negative i) (cond (nat_le (back i) n) (Some (n - back i)) None) (Some i)
 
 -- the first place among n that is not before the one that the index names
 abbrev pub first_index : ℕ → ℕ → ℕ

@@ -1,29 +1,32 @@
 -- What events do to a buffer: one after the other, until one is refused.
-use Rattle.std.specs.Prelude.{◌≡◌, ℕ, ◌+◌, cond, List, [], ◌∷◌, length, Ok, Err, Result, nat_le, nat_lt, slice_set}
+use Rattle.std.specs.Prelude.{◌≡◌, ℕ, ◌+◌, cond, List, [], ◌∷◌, ◌++◌, take, drop, Ok, Err, Result, nat_le, nat_lt}
 use Rattle.lines.specs.Cut.{visit_limit, depth_limit}
 use Rattle.lines.specs.Events.{Event, visit, byte, missing}
 use Rattle.lines.specs.declared.error.LineError.{LineError}
 use Rattle.lines.specs.declared.error.LineError.TheVariants.{MissingChild, TooDeep, TooManyVisits, OutputFull}
-use Rattle.moves.specs.declared.pen.Pen.{Pen}
+use Rattle.moves.specs.declared.writing.LinePen.{LinePen}
+use Rattle.pen.specs.Pen.{Page, blank}
 
--- the buffer, how many of its bytes are written, and the visits so far
+-- the buffer that is written into, its bytes, and the visits so far
 pub record State : Type 0 where
-  pub buf : List ℕ
-  pub pen : Pen
+  pub buffer : ℕ
+  pub page : Page
+  pub visits : ℕ
 
 -- the state that is left, and whether an event was refused
 pub record Outcome : Type 0 where
   pub state : State
   pub end : Result (Unit {0}) LineError
 
-abbrev pub at : List ℕ → Pen → State
-at b p = record { buf = b; pen = p }
+abbrev pub state : LinePen → State
+state p = record { buffer = p.out.ghost_name; page = record { written = take p.at p.out.now; rest = drop p.at p.out.now }; visits = p.visits }
 
-abbrev pub penned : ℕ → ℕ → Pen
-penned n v = record { len = n; visits = v }
+-- before anything is written or visited
+abbrev pub fresh : ℕ → List ℕ → State
+fresh b l = record { buffer = b; page = blank l; visits = 0 }
 
-abbrev pub outcome : List ℕ → Pen → Result (Unit {0}) LineError → Outcome
-outcome b p r = record { state = at b p; end = r }
+abbrev pub outcome : LinePen → Result (Unit {0}) LineError → Outcome
+outcome p r = record { state = state p; end = r }
 
 abbrev pub done : State → Outcome
 done s = record { state = s; end = Ok tt }
@@ -38,16 +41,18 @@ go s (Err e) k = refused e s
 abbrev pub then : Outcome → (State → Outcome) → Outcome
 then o k = go o.state o.end k
 
--- one event: a visit is counted, a byte is written behind the others
+-- a byte behind the others, if there is room for it
+abbrev pub inked : ℕ → State → List ℕ → Outcome
+inked b s [] = refused OutputFull s
+inked b s (x ∷ rest) = done (record { buffer = s.buffer; page = record { written = s.page.written ++ b ∷ []; rest = rest }; visits = s.visits })
+
+-- one event: a visit is counted, a byte is written
 abbrev pub one : Event → State → Outcome
 one (visit t d) s =
-    cond (nat_lt s.pen.visits visit_limit)
-    (cond (nat_le d depth_limit) (done (at s.buf (penned s.pen.len (s.pen.visits + 1)))) (refused TooDeep s))
+    cond (nat_lt s.visits visit_limit)
+    (cond (nat_le d depth_limit) (done (record { buffer = s.buffer; page = s.page; visits = s.visits + 1 })) (refused TooDeep s))
     (refused TooManyVisits s)
-one (byte b) s =
-    cond (nat_lt s.pen.len (length s.buf))
-    (done (at (slice_set s.buf s.pen.len b) (penned (s.pen.len + 1) s.pen.visits)))
-    (refused OutputFull s)
+one (byte b) s = inked b s s.page.rest
 one missing s = refused MissingChild s
 
 abbrev pub run : List Event → State → Outcome

@@ -1,50 +1,38 @@
 ghost use Rattle.std.specs.Prelude.{◌≡◌, ◌≤◌, length};
 ghost use Rattle.grammar.specs.Numbers.{bits};
 ghost use Rattle.lines.specs.Children.{place_of};
-ghost use Rattle.moves.specs.Ends.{first_index, end_of};
+ghost use Rattle.moves.specs.Ends.{first_index, end_of, counted};
 ghost use Rattle.moves.specs.Walk.{reached, onward};
 
 use grammar::ChildIndex;
 use terms::TermSource;
 use wire::Command;
 
-// The 32 bits of an index.
-fn word_of(index: ChildIndex) -> u32
-    ensures { result ≡ bits index.0 }
+// The place that an index means, where a negative one counts back from so many children; none where that is before the first of them.
+fn counted(index: ChildIndex, count: usize) -> Option<usize>
+    ensures { result ≡ counted count (bits index.0) }
 {
-    index.0.cast_unsigned()
+    let far = index.0.unsigned_abs() as usize;
+    if index.0 < 0 {
+        count.checked_sub(far)
+    } else {
+        Some(far)
+    }
 }
 
 // The place that an index names among so many children.
 pub fn place_of(index: ChildIndex, count: usize) -> Option<usize>
     ensures { result ≡ place_of count (bits index.0) }
 {
-    let word = word_of(index) as usize;
-    if word >= 2147483648 {
-        let back = 4294967296 - word;
-        if back <= count {
-            Some(count - back)
-        } else {
-            None
-        }
-    } else if word < count {
-        Some(word)
-    } else {
-        None
-    }
+    let place = counted(index, count)?;
+    (place < count).then_some(place)
 }
 
 // The place among so many children at which a range from an index begins.
 pub fn first_of(index: ChildIndex, count: usize) -> usize
     ensures { result ≡ first_index count (bits index.0) }
 {
-    let word = word_of(index) as usize;
-    if word >= 2147483648 {
-        let back = 4294967296 - word;
-        if back <= count { count - back } else { 0 }
-    } else {
-        word
-    }
+    counted(index, count).unwrap_or(0)
 }
 
 // The place behind the last child of a range up to an index.
@@ -52,25 +40,16 @@ pub fn end_of(index: ChildIndex, count: usize) -> usize
     ensures within { result ≤ count }
     ensures value { result ≡ end_of count (bits index.0) }
 {
-    let word = word_of(index) as usize;
-    if word >= 2147483648 {
-        let back = 4294967296 - word;
-        if back <= count { count - back + 1 } else { 0 }
-    } else if word < count {
-        word + 1
-    } else {
-        count
-    }
+    counted(index, count).map_or(0, |place| count.min(place.saturating_add(1)))
 }
+
+// A term is a number of a source, so each question takes both; a struct of them would be made for each question.
 
 // How many children a term has; none where there is no such term.
 pub fn child_number<S: TermSource>(source: &S, term: usize) -> usize
     ensures { result ≡ length ((S.TermSource.view source.now).children term) }
 {
-    match source.child_count(term) {
-        Some(count) => count,
-        None => 0,
-    }
+    source.child_count(term).unwrap_or(0)
 }
 
 // The child of a term that an index names.
@@ -86,10 +65,7 @@ pub fn onward<S: TermSource>(source: &S, term: usize, here: usize, command: Comm
     ensures { result ≡ onward (S.TermSource.view source.now) term here command }
 {
     match command {
-        Command::Step(index) => match child_of(source, here, index) {
-            Some(child) => child,
-            None => term,
-        },
+        Command::Step(index) => child_of(source, here, index).unwrap_or(term),
         _ => term,
     }
 }

@@ -3,10 +3,10 @@
 
 mod captures;
 mod children;
-mod pen;
 mod places;
+mod writing;
 
-pub use captures::{copy_name, put_capture};
+pub use captures::{captured, copy_name};
 pub use children::{child_number, child_of, end_of, first_of, onward, place_of};
-pub use pen::{Pen, enter, put, put_all};
-pub use places::{bracketed, passed};
+pub use places::{bracketed, pass_operands};
+pub use writing::LinePen;

@@ -1,39 +1,40 @@
-ghost use Rattle.std.specs.Prelude.{◌≡◌, ◌≤◌, List, ◌∷◌};
+ghost use Rattle.std.specs.Prelude.{◌≡◌, ◌≤◌, List, ◌∷◌, length};
 ghost use Rattle.moves.specs.Ends.{bracketed};
 ghost use Rattle.moves.specs.Walk.{over};
 ghost use Rattle.wire.specs.Ahead.{ahead};
+ghost use Rattle.wire.specs.Cursor.{ahead_of, bytes_of};
 ghost use Rattle.wire.specs.declared.commands.Command.{Command};
 
-use wire::{Command, behind, is_range, next_at};
+use grammar::BindPowerPair;
+use wire::{Command, Commands};
 
-// The place of the command behind this one, whose operands end before `next`: a range has its three separators there.
-pub fn passed(code: &[u8], command: Command, next: usize) -> usize
-    ensures forth { next ≤ result }
-    ensures place { ahead code.now result ≡ over command (ahead code.now next) }
+// Goes on behind all that belongs to a command which was just read: a range has its three separators behind it.
+pub fn pass_operands(commands: &mut Commands<'_>, command: Command)
+    ensures commands { ahead_of commands.new ≡ over command (ahead_of commands.old) }
+    ensures fewer { length (bytes_of commands.new) ≤ length (bytes_of commands.old) }
 {
-    if is_range(command) {
-        behind(code, behind(code, behind(code, next)))
-    } else {
-        next
+    if command.is_range() {
+        commands.pass();
+        commands.pass();
+        commands.pass();
     }
 }
 
 // Whether brackets enclose what a code shows, between these powers.
-pub fn bracketed(code: &[u8], before: u32, after: u32) -> bool
-    ensures { result ≡ bracketed (ahead code.now 0) before after }
+pub fn bracketed(code: &[u8], around: BindPowerPair) -> bool
+    ensures { result ≡ bracketed (ahead code.now 0) around.left around.right }
 {
-    match next_at(code, 0) {
-        Some((command, _)) => exceeded(command, before, after),
-        None => false,
-    }
+    Commands::of(code)
+        .next()
+        .is_some_and(|command| exceeded(command, around))
 }
 
 // Whether a power of a reading is exceeded by the one beside it.
-fn exceeded(command: Command, before: u32, after: u32) -> bool
-    ensures { (ks : List Command) → result ≡ bracketed (command ∷ ks) before after }
+fn exceeded(command: Command, around: BindPowerPair) -> bool
+    ensures { (ks : List Command) → result ≡ bracketed (command ∷ ks) around.left around.right }
 {
     match command {
-        Command::Power { left, right } => left < before || right < after,
+        Command::Power { left, right } => left < around.left || right < around.right,
         _ => false,
     }
 }

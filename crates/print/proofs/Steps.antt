@@ -1,7 +1,10 @@
 -- A visit step by step, from what each call ensures.
-use Rattle.std.proofs.Common.{◌≡◌, ℕ, suc, ◌+◌, ◌-◌, ◌<◌, ◌≤◌, Bool, true, false, cond, eqb, List, [], ◌∷◌, ◌++◌, length, get_or, take, drop, Some, Option, sym, refl, ap, ◌∙◌, append_assoc, arith, length-drop, length-take}
+use Rattle.std.proofs.Common.{◌≡◌, ℕ, suc, ◌+◌, ◌-◌, ◌<◌, ◌≤◌, Bool, true, false, cond, eqb, List, [], ◌∷◌, ◌++◌, length, get_or, take, drop, Some, None, Ok, Option, Result, sym, refl, ap, ◌∙◌, append_assoc, arith, length-drop, length-take}
 use Rattle.std.proofs.lemmas.List.{at_drop_more, at_drop_all, drop_more, drop_all, get_or-take}
 use Rattle.std.proofs.lemmas.Bool.{eq-eqb, ne_eqb}
+use Rattle.std.specs.Option.{ok_or}
+use Rattle.grammar.proofs.Chains.{refused, same_ok}
+use Rattle.lines.specs.declared.error.LineError.{LineError}
 use Rattle.codes.specs.Code.{code, run as coded, commands, code_repeat}
 use Rattle.codes.specs.Formed.{FormedTemplate}
 use Rattle.engine.specs.declared.span.Span.{Span}
@@ -15,7 +18,7 @@ use Rattle.lines.specs.Chosen.{Chosen, Choosing, Answered, answered}
 use Rattle.lines.specs.Events.{Event, visit, byte, Context, context, encloses, is_last, body, enclosed, shown, line}
 use Rattle.terms.specs.Source.{Source, item}
 use Rattle.wire.proofs.Wires.{due-power}
-use Rattle.wire.specs.Ahead.{due, is_end, past}
+use Rattle.wire.specs.Ahead.{due, is_end, is_range, past}
 use Rattle.wire.specs.declared.commands.Command.{Command}
 use Rattle.wire.specs.declared.commands.Command.TheVariants.{Range}
 use Rattle.moves.proofs.Runs.{thence, like_append}
@@ -26,6 +29,24 @@ use Rattle.moves.specs.Run.{State, Outcome, done, then, run, Like}
 use Rattle.moves.specs.Walk.{onward, skips, over, amid, row_by, range_by, walk, inside, part_of, outside}
 
 -- ---- the commands of a code
+past_shorter : (ks : List Command) → length (past ks) ≤ length ks
+past_shorter [] = omega arith
+past_shorter (k ∷ ks) = by (is_end k) (past_shorter ks)
+  where
+    by : (b : Bool) → length (past ks) ≤ length ks → length (cond b ks (past ks)) ≤ suc (length ks)
+    by true h = omega arith
+    by false h = omega arith
+
+-- behind a command there are fewer commands
+pub over_shorter : (k : Command) (ks : List Command) {ws ks' : List Command} → ws ≡ k ∷ ks → ks' ≡ over k ks → length ks' < length ws
+over_shorter k ks {ws} {ks'} e f =
+    let h : length (over k ks) < suc (length ks) = by (is_range k) in
+    omega (arith, h, ap length e, ap length f)
+  where
+    by : (b : Bool) → length (cond b (past (past (past ks))) ks) < suc (length ks)
+    by true = omega (arith, past_shorter ks, past_shorter (past ks), past_shorter (past (past ks)))
+    by false = omega arith
+
 module _ (m : Source) (show : ℕ → Context → List Event) (t : ℕ) (name : List ℕ) (spans : List (Option Span)) (part : ℕ → Command → List Command → List Event) where
   pub walk_more : (u u' : ℕ) (k : Command) (ks ks' ws : List Command) (s : State) {o : Outcome} → ws ≡ k ∷ ks → is_end k ≡ false → o ≡ run (part u k ks) s → u' ≡ onward m t u k → ks' ≡ over k ks
       → then o (run (walk m show t name spans part 0 u' ks')) ≡ run (walk m show t name spans part 0 u ws) s
@@ -35,14 +56,6 @@ module _ (m : Source) (show : ℕ → Context → List Event) (t : ℕ) (name : 
       ∙ ap (λ es. run (part u k ks ++ es) s) (sym (walk_over m show t name spans part (onward m t u k) k ks))
       ∙ ap (λ b. run (cond b [] (part u k ks ++ walk m show t name spans part (skips k) (onward m t u k) ks)) s) (sym n)
       ∙ ap (λ l. run (walk m show t name spans part 0 u l) s) (sym e)
-
-  pub walk_end : (u : ℕ) (k : Command) (ks ws : List Command) (s : State) → ws ≡ k ∷ ks → is_end k ≡ true → done s ≡ run (walk m show t name spans part 0 u ws) s
-  walk_end u k ks ws s e n =
-      ap (λ b. run (cond b [] (part u k ks ++ walk m show t name spans part (skips k) (onward m t u k) ks)) s) (sym n)
-      ∙ ap (λ l. run (walk m show t name spans part 0 u l) s) (sym e)
-
-  pub walk_none : (u : ℕ) (ws : List Command) (s : State) → ws ≡ [] → done s ≡ run (walk m show t name spans part 0 u ws) s
-  walk_none u ws s e = ap (λ l. run (walk m show t name spans part 0 u l) s) (sym e)
 
 -- ---- a row of children
 module _ (show : ℕ → Context → List Event) (powers : Bool → Bool → Context) (gap : List Event) (cs : List ℕ) (end : ℕ) (fits : end ≤ length cs) where
@@ -89,12 +102,16 @@ module _ (show : ℕ → Context → List Event) (powers : Bool → Bool → Con
 pub one_more : (gap rest : List Event) (b : Bool) (s s' : State) {o : Outcome} → done s' ≡ run (cond b [] gap) s → o ≡ run rest s' → o ≡ run (cond b [] gap ++ rest) s
 one_more gap rest b s s' h e = e ∙ thence (cond b [] gap) rest s h
 
+pub some_of : (o : Option ℕ) (e : LineError) {r : Result ℕ LineError} {x : ℕ} → r ≡ ok_or o e → r ≡ Ok x → o ≡ Some x
+some_of None e {r} {x} h k = refused e x (sym h ∙ k)
+some_of (Some y) e h k = ap (λ (n : ℕ). Some n) (same_ok y _ (sym h ∙ k))
+
 -- the child of a row, between its powers
-pub child_shown : (show : ℕ → Context → List Event) (d d' : ℕ) (line' : ℕ → ℕ → Context → List Event) (cs : List ℕ) (j c : ℕ) (l a b r x y : ℕ) (first last : Bool) (s : State) → Some c ≡ item cs j → x ≡ cond first l b → y ≡ cond last r a → line' d ≡ show → d' ≡ d
-    → run (line' d' c (context x y)) s ≡ run (show (get_or cs j 0) (amid l a b r first last)) s
-child_shown show d d' line' cs j c l a b r x y first last s e p q h k =
+pub child_shown : (show : ℕ → Context → List Event) (d d' : ℕ) (line' : ℕ → ℕ → Context → List Event) (cs : List ℕ) (j c : ℕ) (x y : Context) (s : State) → Some c ≡ item cs j → x ≡ y → line' d ≡ show → d' ≡ d
+    → run (line' d' c x) s ≡ run (show (get_or cs j 0) y) s
+child_shown show d d' line' cs j c x y s e p h k =
     let i = item_there cs j c (sym e) in
-    (λ z. run (line' (k z) (sym i.1 z) (context (p z) (q z))) s) ∙ ap (λ f. run (f (get_or cs j 0) (amid l a b r first last)) s) h
+    (λ z. run (line' (k z) (sym i.1 z) (p z)) s) ∙ ap (λ f. run (f (get_or cs j 0) y) s) h
 
 -- ---- a RANGE
 pub range_part : (m : Source) (show : ℕ → Context → List Event) (t : ℕ) (name : List ℕ) (spans : List (Option Span)) (u : ℕ) (from to : ChildIndex) (l a b r : ℕ) (k : Command) (ks k₂ k₃ : List Command) (n first end : ℕ) (s : State)

@@ -3,6 +3,7 @@
 
 mod job;
 mod printing;
+mod row;
 mod show;
 
 pub use printing::print;

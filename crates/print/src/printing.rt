@@ -1,11 +1,29 @@
 ghost use Rattle.std.specs.Prelude.{◌≡◌, length};
 ghost use Rattle.lines.specs.Cut.{printing, answer, left};
+ghost use Rattle.lines.specs.Events.{line, alone};
 ghost use Rattle.lines.specs.Laws.{Laws};
+ghost use Rattle.moves.specs.Run.{state, outcome, run};
 
 use crate::show::show;
+use grammar::BindPowerPair;
 use lines::{Chooser, LineError, Printed, Unfinished};
-use moves::Pen;
+use moves::LinePen;
 use terms::TermSource;
+
+// Chooser and source come one by one from the caller of `print`; below, each visit holds them.
+
+// Shows the term that a print begins with.
+fn begin<C: Chooser, S: TermSource>(
+    chooser: &C,
+    source: &S,
+    term: usize,
+    pen: &mut LinePen<'_>,
+) -> Result<(), LineError>
+    ensures same { pen.new.out.ghost_name ≡ pen.old.out.ghost_name }
+    ensures shown { outcome pen.new result ≡ run (line (C.Chooser.choices chooser.now).chosen (S.TermSource.view source.now) 1 term alone) (state pen.old) }
+{
+    show(chooser, source, term, 1, BindPowerPair::default(), pen)
+}
 
 // Prints a term into a buffer: each term is shown by what is chosen for its name and its child count.
 // A refusal leaves what was written before it in the buffer, and the bytes behind that as they were.
@@ -25,15 +43,14 @@ pub fn print<C: Chooser, S: TermSource>(
             count: 0,
         });
     }
-    let mut pen = Pen { len: 0, visits: 0 };
-    match show(chooser, source, term, 1, 0, 0, out, &mut pen) {
-        Ok(()) => Ok(Printed {
-            visits: pen.visits,
-            count: pen.len,
-        }),
+    let mut pen = LinePen::new(out);
+    let shown = begin(chooser, source, term, &mut pen);
+    let printed = pen.printed();
+    match shown {
+        Ok(()) => Ok(printed),
         Err(kind) => Err(Unfinished {
             kind,
-            count: pen.len,
+            count: printed.count,
         }),
     }
 }

@@ -1,69 +1,69 @@
 ghost use Rattle.std.specs.Prelude.{◌≡◌, ◌<◌, ◌≤◌, true, length};
 ghost use Rattle.lines.specs.Events.{context, line};
-ghost use Rattle.moves.specs.Run.{at, outcome, run};
+ghost use Rattle.moves.specs.Run.{state, outcome, run};
 ghost use Rattle.print.specs.Jobs.{children_of, plain_at, inside_at, part_at, outside_at, one_at, row_at, range_at, enclosed_at};
+ghost use Rattle.wire.specs.Ahead.{ahead};
+ghost use Rattle.wire.specs.Cursor.{ahead_of};
 
-use crate::job::{Job, Row, power_before, power_behind};
+use crate::job::Job;
+use crate::row::{Row, around};
+use grammar::BindPowerPair;
 use lines::{Choice, Chooser, LineError};
 use moves::{
-    Pen, bracketed, child_number, child_of, copy_name, end_of, enter, first_of, onward, passed,
-    put, put_capture,
+    LinePen, bracketed, captured, child_number, child_of, copy_name, end_of, first_of, onward,
+    pass_operands,
 };
-use terms::TermSource;
-use wire::{Command, behind, is_end, next_at};
+use terms::{LONGEST_NAME, TermSource};
+use wire::{Command, Commands};
+
+// Each function is a rule of the line, by its name in specs/Jobs, and takes the visit as the rule does; as a method it would
+// read `self` for `job` and be no plainer.
 
 // Carries out one command at the term `here`; a range is not carried out here.
 #[cycle(enclosed_one_part_pieces_plain_range_row_separator_show)]
 fn plain<C: Chooser, S: TermSource>(
-    chooser: &C,
-    source: &S,
-    job: &Job<'_, '_, C::Match>,
+    job: &Job<'_, C, S, C::Match>,
     here: usize,
     command: Command,
-    buf: &mut [u8],
-    pen: &mut Pen,
+    pen: &mut LinePen<'_>,
 ) -> Result<(), LineError>
-    requires { job.now.depth ≤ 128 }
-    ensures { outcome buf.new pen.new result ≡ run (plain_at (C.Chooser.choices chooser.now).chosen (S.TermSource.view source.now) C.Match.Spans.listed job.now here command) (at buf.old pen.old) }
+    ensures { outcome pen.new result ≡ run (plain_at (C.Chooser.choices job.now.chooser.now).chosen (S.TermSource.view job.now.source.now) C.Match.Spans.listed job.now here command) (state pen.old) }
 {
     match command {
-        Command::Byte(b) => put(buf, pen, b),
-        Command::Step(index) => match child_of(source, here, index) {
-            Some(_) => Ok(()),
-            None => Err(LineError::MissingChild),
-        },
-        Command::Child { index, left, right } => match child_of(source, here, index) {
-            Some(child) => show(chooser, source, child, job.depth + 1, left, right, buf, pen),
-            None => Err(LineError::MissingChild),
-        },
-        Command::Capture(k) => put_capture(buf, pen, job.name, &job.found, k),
+        Command::Byte(b) => pen.put(b),
+        Command::Step(index) => {
+            let _ = child_of(job.source, here, index).ok_or(LineError::MissingChild)?;
+            Ok(())
+        }
+        Command::Child { index, left, right } => {
+            let child = child_of(job.source, here, index).ok_or(LineError::MissingChild)?;
+            let powers = BindPowerPair { left, right };
+            show(job.chooser, job.source, child, job.depth + 1, powers, pen)
+        }
+        Command::Capture(k) => pen.put_all(captured(job.name, &job.found, k)),
         _ => Ok(()),
     }
 }
 
-// Carries out the separator whose code stands at a place, for the term of the visit.
+// Carries out the commands of a separator, for the term of the visit.
 #[cycle(enclosed_one_part_pieces_plain_range_row_separator_show)]
 fn separator<C: Chooser, S: TermSource>(
-    chooser: &C,
-    source: &S,
-    job: &Job<'_, '_, C::Match>,
-    start: usize,
-    buf: &mut [u8],
-    pen: &mut Pen,
+    job: &Job<'_, C, S, C::Match>,
+    separator: Commands<'_>,
+    pen: &mut LinePen<'_>,
 ) -> Result<(), LineError>
-    requires { job.now.depth ≤ 128 }
-    ensures { outcome buf.new pen.new result ≡ run (inside_at (C.Chooser.choices chooser.now).chosen (S.TermSource.view source.now) C.Match.Spans.listed job.now job.now.term start) (at buf.old pen.old) }
+    ensures { outcome pen.new result ≡ run (inside_at (C.Chooser.choices job.now.chooser.now).chosen (S.TermSource.view job.now.source.now) C.Match.Spans.listed job.now job.now.term (ahead_of separator.entry)) (state pen.old) }
 {
-    let code = job.code;
-    let mut place = start;
+    let mut commands = separator;
     let mut here = job.term;
-    'walking: while let Some((command, next)) = next_at(code, place) {
-        if is_end(command) {
+    // not a `for`, since the body moves the cursor behind what belongs to a command
+    'walking: while let Some(command) = commands.next() {
+        if command.is_end() {
             return Ok(());
         }
-        plain(chooser, source, job, here, command, buf, pen)?;
-        here = onward(source, job.term, here, command);
-        place = passed(code, command, next);
+        plain(job, here, command, pen)?;
+        here = onward(job.source, job.term, here, command);
+        pass_operands(&mut commands, command);
     }
     Ok(())
 }
@@ -71,57 +71,39 @@ fn separator<C: Chooser, S: TermSource>(
 // Shows the child at a place of a row, behind the middle separator if it is not the first.
 #[cycle(enclosed_one_part_pieces_plain_range_row_separator_show)]
 fn one<C: Chooser, S: TermSource>(
-    chooser: &C,
-    source: &S,
-    job: &Job<'_, '_, C::Match>,
-    row: &Row,
+    job: &Job<'_, C, S, C::Match>,
+    row: &Row<'_>,
     place: usize,
-    buf: &mut [u8],
-    pen: &mut Pen,
+    pen: &mut LinePen<'_>,
 ) -> Result<(), LineError>
-    requires depth { job.now.depth ≤ 128 }
     requires place { place < row.now.end }
-    requires end { row.now.end ≤ length ((S.TermSource.view source.now).children row.now.parent) }
-    ensures { outcome buf.new pen.new result ≡ run (one_at (C.Chooser.choices chooser.now).chosen (S.TermSource.view source.now) C.Match.Spans.listed job.now row.now place) (at buf.old pen.old) }
+    requires end { row.now.end ≤ length ((S.TermSource.view job.now.source.now).children row.now.parent) }
+    ensures { outcome pen.new result ≡ run (one_at (C.Chooser.choices job.now.chooser.now).chosen (S.TermSource.view job.now.source.now) C.Match.Spans.listed job.now row.now place) (state pen.old) }
 {
     if place != row.first {
-        separator(chooser, source, job, row.between, buf, pen)?;
+        separator(job, row.between, pen)?;
     }
-    match source.child(row.parent, place) {
-        Some(child) => {
-            let before = power_before(row, place);
-            let after = power_behind(row, place);
-            show(
-                chooser,
-                source,
-                child,
-                job.depth + 1,
-                before,
-                after,
-                buf,
-                pen,
-            )
-        }
-        None => Err(LineError::MissingChild),
-    }
+    let child = job
+        .source
+        .child(row.parent, place)
+        .ok_or(LineError::MissingChild)?;
+    let powers = around(row, place);
+    show(job.chooser, job.source, child, job.depth + 1, powers, pen)
 }
 
 // Shows the children of a row.
 #[cycle(enclosed_one_part_pieces_plain_range_row_separator_show)]
 fn row<C: Chooser, S: TermSource>(
-    chooser: &C,
-    source: &S,
-    job: &Job<'_, '_, C::Match>,
-    row: &Row,
-    buf: &mut [u8],
-    pen: &mut Pen,
+    job: &Job<'_, C, S, C::Match>,
+    row: &Row<'_>,
+    pen: &mut LinePen<'_>,
 ) -> Result<(), LineError>
-    requires depth { job.now.depth ≤ 128 }
-    requires end { row.now.end ≤ length ((S.TermSource.view source.now).children row.now.parent) }
-    ensures { outcome buf.new pen.new result ≡ run (row_at (C.Chooser.choices chooser.now).chosen (S.TermSource.view source.now) C.Match.Spans.listed job.now row.now true (children_of (S.TermSource.view source.now) row.now)) (at buf.old pen.old) }
+    requires { row.now.end ≤ length ((S.TermSource.view job.now.source.now).children row.now.parent) }
+    ensures { outcome pen.new result ≡ run (row_at (C.Chooser.choices job.now.chooser.now).chosen (S.TermSource.view job.now.source.now) C.Match.Spans.listed job.now row.now true (children_of (S.TermSource.view job.now.source.now) row.now)) (state pen.old) }
 {
+    // by place, since the powers and the separators beside a child go by its place
     for place in row.first..row.end {
-        one(chooser, source, job, row, place, buf, pen)?;
+        one(job, row, place, pen)?;
     }
     Ok(())
 }
@@ -129,39 +111,31 @@ fn row<C: Chooser, S: TermSource>(
 // Shows the children of a row between its outer separators; nothing where it has no children.
 #[cycle(enclosed_one_part_pieces_plain_range_row_separator_show)]
 fn range<C: Chooser, S: TermSource>(
-    chooser: &C,
-    source: &S,
-    job: &Job<'_, '_, C::Match>,
-    span: &Row,
-    buf: &mut [u8],
-    pen: &mut Pen,
+    job: &Job<'_, C, S, C::Match>,
+    span: &Row<'_>,
+    pen: &mut LinePen<'_>,
 ) -> Result<(), LineError>
-    requires depth { job.now.depth ≤ 128 }
-    requires end { span.now.end ≤ length ((S.TermSource.view source.now).children span.now.parent) }
-    ensures { outcome buf.new pen.new result ≡ run (range_at (C.Chooser.choices chooser.now).chosen (S.TermSource.view source.now) C.Match.Spans.listed job.now span.now (children_of (S.TermSource.view source.now) span.now)) (at buf.old pen.old) }
+    requires { span.now.end ≤ length ((S.TermSource.view job.now.source.now).children span.now.parent) }
+    ensures { outcome pen.new result ≡ run (range_at (C.Chooser.choices job.now.chooser.now).chosen (S.TermSource.view job.now.source.now) C.Match.Spans.listed job.now span.now (children_of (S.TermSource.view job.now.source.now) span.now)) (state pen.old) }
 {
     if span.first >= span.end {
         return Ok(());
     }
-    separator(chooser, source, job, span.before, buf, pen)?;
-    row(chooser, source, job, span, buf, pen)?;
-    separator(chooser, source, job, span.behind, buf, pen)
+    separator(job, span.before, pen)?;
+    row(job, span, pen)?;
+    separator(job, span.behind, pen)
 }
 
-// Carries out one command of the template at the term `here`; its operands end before `next`.
+// Carries out one command of the template at the term `here`; `rest` has the commands behind its operands.
 #[cycle(enclosed_one_part_pieces_plain_range_row_separator_show)]
 fn part<C: Chooser, S: TermSource>(
-    chooser: &C,
-    source: &S,
-    job: &Job<'_, '_, C::Match>,
+    job: &Job<'_, C, S, C::Match>,
     here: usize,
     command: Command,
-    next: usize,
-    buf: &mut [u8],
-    pen: &mut Pen,
+    rest: Commands<'_>,
+    pen: &mut LinePen<'_>,
 ) -> Result<(), LineError>
-    requires { job.now.depth ≤ 128 }
-    ensures { outcome buf.new pen.new result ≡ run (part_at (C.Chooser.choices chooser.now).chosen (S.TermSource.view source.now) C.Match.Spans.listed job.now here command next) (at buf.old pen.old) }
+    ensures { outcome pen.new result ≡ run (part_at (C.Chooser.choices job.now.chooser.now).chosen (S.TermSource.view job.now.source.now) C.Match.Spans.listed job.now here command (ahead_of rest.entry)) (state pen.old) }
 {
     match command {
         Command::Range {
@@ -172,51 +146,50 @@ fn part<C: Chooser, S: TermSource>(
             middle_right,
             right,
         } => {
-            let count = child_number(source, here);
+            let count = child_number(job.source, here);
             let first = first_of(from, count);
             let end = end_of(to, count);
-            let second = behind(job.code, next);
-            let third = behind(job.code, second);
+            let mut second = rest;
+            second.pass();
+            let mut third = second;
+            third.pass();
             let span = Row {
                 parent: here,
                 first,
                 end,
-                before: next,
+                before: rest,
                 between: second,
                 behind: third,
-                left,
-                middle_left,
-                middle_right,
-                right,
+                outer: BindPowerPair { left, right },
+                middle: BindPowerPair {
+                    left: middle_left,
+                    right: middle_right,
+                },
             };
-            range(chooser, source, job, &span, buf, pen)
+            range(job, &span, pen)
         }
-        _ => plain(chooser, source, job, here, command, buf, pen),
+        _ => plain(job, here, command, pen),
     }
 }
 
 // Carries out the commands of the template.
 #[cycle(enclosed_one_part_pieces_plain_range_row_separator_show)]
 fn pieces<C: Chooser, S: TermSource>(
-    chooser: &C,
-    source: &S,
-    job: &Job<'_, '_, C::Match>,
-    buf: &mut [u8],
-    pen: &mut Pen,
+    job: &Job<'_, C, S, C::Match>,
+    pen: &mut LinePen<'_>,
 ) -> Result<(), LineError>
-    requires { job.now.depth ≤ 128 }
-    ensures { outcome buf.new pen.new result ≡ run (outside_at (C.Chooser.choices chooser.now).chosen (S.TermSource.view source.now) C.Match.Spans.listed job.now job.now.term 0) (at buf.old pen.old) }
+    ensures { outcome pen.new result ≡ run (outside_at (C.Chooser.choices job.now.chooser.now).chosen (S.TermSource.view job.now.source.now) C.Match.Spans.listed job.now job.now.term (ahead job.now.code.now 0)) (state pen.old) }
 {
-    let code = job.code;
-    let mut place = 0;
+    let mut commands = Commands::of(job.code);
     let mut here = job.term;
-    'walking: while let Some((command, next)) = next_at(code, place) {
-        if is_end(command) {
+    // not a `for`, since the body moves the cursor behind what belongs to a command
+    'walking: while let Some(command) = commands.next() {
+        if command.is_end() {
             return Ok(());
         }
-        part(chooser, source, job, here, command, next, buf, pen)?;
-        here = onward(source, job.term, here, command);
-        place = passed(code, command, next);
+        part(job, here, command, commands, pen)?;
+        here = onward(job.source, job.term, here, command);
+        pass_operands(&mut commands, command);
     }
     Ok(())
 }
@@ -224,23 +197,18 @@ fn pieces<C: Chooser, S: TermSource>(
 // Carries out the template, in brackets if a power beside the term exceeds its own on that side.
 #[cycle(enclosed_one_part_pieces_plain_range_row_separator_show)]
 fn enclosed<C: Chooser, S: TermSource>(
-    chooser: &C,
-    source: &S,
-    job: &Job<'_, '_, C::Match>,
-    before: u32,
-    after: u32,
-    buf: &mut [u8],
-    pen: &mut Pen,
+    job: &Job<'_, C, S, C::Match>,
+    powers: BindPowerPair,
+    pen: &mut LinePen<'_>,
 ) -> Result<(), LineError>
-    requires { job.now.depth ≤ 128 }
-    ensures { outcome buf.new pen.new result ≡ run (enclosed_at (C.Chooser.choices chooser.now).chosen (S.TermSource.view source.now) C.Match.Spans.listed job.now before after) (at buf.old pen.old) }
+    ensures { outcome pen.new result ≡ run (enclosed_at (C.Chooser.choices job.now.chooser.now).chosen (S.TermSource.view job.now.source.now) C.Match.Spans.listed job.now powers.left powers.right) (state pen.old) }
 {
-    if bracketed(job.code, before, after) {
-        put(buf, pen, 40)?;
-        pieces(chooser, source, job, buf, pen)?;
-        put(buf, pen, 41)
+    if bracketed(job.code, powers) {
+        pen.put(b'(')?;
+        pieces(job, pen)?;
+        pen.put(b')')
     } else {
-        pieces(chooser, source, job, buf, pen)
+        pieces(job, pen)
     }
 }
 
@@ -251,24 +219,24 @@ pub(crate) fn show<C: Chooser, S: TermSource>(
     source: &S,
     term: usize,
     depth: usize,
-    before: u32,
-    after: u32,
-    buf: &mut [u8],
-    pen: &mut Pen,
+    powers: BindPowerPair,
+    pen: &mut LinePen<'_>,
 ) -> Result<(), LineError>
-    ensures { outcome buf.new pen.new result ≡ run (line (C.Chooser.choices chooser.now).chosen (S.TermSource.view source.now) depth term (context before after)) (at buf.old pen.old) }
+    ensures { outcome pen.new result ≡ run (line (C.Chooser.choices chooser.now).chosen (S.TermSource.view source.now) depth term (context powers.left powers.right)) (state pen.old) }
 {
-    enter(pen, depth)?;
+    pen.enter(depth)?;
     let count = child_number(source, term);
-    let mut name = [0u8; 255];
+    let mut name = [0u8; LONGEST_NAME];
     let len = copy_name(source, term, &mut name);
     let Choice { code, found } = chooser.choose(&name[0..len], count);
     let job = Job {
+        chooser,
+        source,
         term,
         depth,
         name: &name[0..len],
         code,
         found,
     };
-    enclosed(chooser, source, &job, before, after, buf, pen)
+    enclosed(&job, powers, pen)
 }

@@ -3,7 +3,7 @@ ghost use Rattle.register.specs.Refusals.{book_number, book_name, book_layer};
 use codes::CodeError;
 use displays::ConversionError;
 use formatter::FallbackParseError;
-use refusal::{Layer, MatcherError, ParseError, Refusal};
+use refusal::{Layer, MatcherError, ParseError, Refusal, Told};
 
 // Why a book refuses.
 #[derive(Clone, Copy, Debug, PartialEq, Eq)]
@@ -31,39 +31,15 @@ impl Refusal for BookError {
 
     ghost within = { book_layer };
 
-    fn number(&self) -> u8 {
+    fn told(&self) -> Told {
         match *self {
-            BookError::Definition(e) => e.number(),
-            BookError::Matcher(e) => e.kind.number(),
-            BookError::Fallback(e) => e.number(),
-            BookError::Code(e) => e.number(),
-            BookError::AlreadyStands => 31,
-            BookError::BookFull => 30,
-            BookError::NoneStands => 32,
-        }
-    }
-
-    fn name(&self) -> &'static str {
-        match *self {
-            BookError::Definition(e) => e.name(),
-            BookError::Matcher(e) => e.kind.name(),
-            BookError::Fallback(e) => e.name(),
-            BookError::Code(e) => e.name(),
-            BookError::AlreadyStands => "AlreadyStands",
-            BookError::BookFull => "BookFull",
-            BookError::NoneStands => "NoneStands",
-        }
-    }
-
-    fn layer(&self) -> Layer {
-        match *self {
-            BookError::Definition(e) => e.layer(),
-            BookError::Matcher(_) => Layer::Matcher,
-            BookError::Fallback(e) => e.layer(),
-            BookError::Code(_) => Layer::Book,
-            BookError::AlreadyStands => Layer::Book,
-            BookError::BookFull => Layer::Book,
-            BookError::NoneStands => Layer::Book,
+            BookError::Definition(e) => e.told(),
+            BookError::Matcher(e) => e.told(),
+            BookError::Fallback(e) => e.told(),
+            BookError::Code(e) => e.told(),
+            BookError::AlreadyStands => Told::new(31, "AlreadyStands", Layer::Book),
+            BookError::BookFull => Told::new(30, "BookFull", Layer::Book),
+            BookError::NoneStands => Told::new(32, "NoneStands", Layer::Book),
         }
     }
 }

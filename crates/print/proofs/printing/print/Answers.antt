@@ -1,5 +1,7 @@
-use Rattle.std.proofs.Common.{◌<◌, ◌≤◌, Ok, Err, arith}
+use Rattle.std.proofs.Common.{◌≡◌, rules, ◌<◌, ◌≤◌, Ok, Err, ap, ◌∙◌, arith}
 use Rattle.lines.proofs.Whole.{laws_hold}
+use Rattle.moves.specs.Run.{run}
+use Rattle.lines.specs.Events.{line, alone}
 use Rattle.print.proofs.Whole.{answers, leaves_so, answers_none, leaves_none}
 use Rattle.print.proofs.printing.print.Goals as goal
 
@@ -10,9 +12,11 @@ returns-in-Ok g c =
     let t = c.args.term in
     let out = c.args.out.now in
     let l : t < m.count = omega arith in
+    let h = c.in-Ok.ensures.shown ∙ ap (run (line ch m 1 t alone)) c.new-pen.ensures.state in
+    let k : _ ≡ c.begin-shown.new.pen.out.now = search rules in
     record {
-      answer = answers ch m t out c.show.new.buf c.show.new.pen (Ok tt) l c.in-Ok.ensures;
-      buffer = leaves_so ch m t out c.show.new.buf c.show.new.pen (Ok tt) l c.in-Ok.ensures;
+      answer = (λ i. Ok (record { visits = c.printed-printed.ensures.visits i; count = c.printed-printed.ensures.count i })) ∙ answers ch m t _ out c.begin-shown.new.pen (Ok c.in-Ok.field-0) l h;
+      buffer = k ∙ leaves_so ch m t _ out c.begin-shown.new.pen (Ok c.in-Ok.field-0) l h;
       laws = laws_hold;
     }
 
@@ -23,9 +27,11 @@ returns-in-Err g c =
     let t = c.args.term in
     let out = c.args.out.now in
     let l : t < m.count = omega arith in
+    let h = c.in-Err.ensures.shown ∙ ap (run (line ch m 1 t alone)) c.new-pen.ensures.state in
+    let k : _ ≡ c.begin-shown.new.pen.out.now = search rules in
     record {
-      answer = answers ch m t out c.show.new.buf c.show.new.pen (Err c.in-Err.kind) l c.in-Err.ensures;
-      buffer = leaves_so ch m t out c.show.new.buf c.show.new.pen (Err c.in-Err.kind) l c.in-Err.ensures;
+      answer = (λ i. Err (record { kind = c.in-Err.kind; count = c.printed-printed.ensures.count i })) ∙ answers ch m t _ out c.begin-shown.new.pen (Err c.in-Err.kind) l h;
+      buffer = k ∙ leaves_so ch m t _ out c.begin-shown.new.pen (Err c.in-Err.kind) l h;
       laws = laws_hold;
     }
 
@@ -35,7 +41,7 @@ returns-then-term-count g c =
     let m = g.S.TermSource.view c.args.source.now in
     let l : m.count ≤ c.args.term = omega arith in
     record {
-      answer = answers_none ch m c.args.term c.args.out.now l;
-      buffer = leaves_none ch m c.args.term c.args.out.now l;
+      answer = answers_none ch m c.args.term 0 c.args.out.now l;
+      buffer = leaves_none ch m c.args.term 0 c.args.out.now l;
       laws = laws_hold;
     }

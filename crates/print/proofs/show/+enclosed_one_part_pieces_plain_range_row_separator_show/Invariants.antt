@@ -1,5 +1,7 @@
 use Rattle.std.proofs.Common.{◌≡◌, ◌+◌, ◌-◌, ◌*◌, true, eqb, length, take, drop}
-use Rattle.moves.specs.Run.{at, run}
+use Rattle.moves.specs.Run.{state, run}
+use Rattle.wire.specs.Ahead.{ahead}
+use Rattle.wire.specs.Cursor.{ahead_of}
 use Rattle.print.specs.Jobs.{children_of, inside_at, outside_at, row_at}
 use Rattle.print.proofs.show.+enclosed_one_part_pieces_plain_range_row_separator_show.Given as goal
 
@@ -34,22 +36,22 @@ decreases-enclosed g l = 9 * (128 - l.job.now.depth) + 8
 -- what is left does what the whole does
 abbrev pub invariant-separator-walking : goal.invariant-separator-walking
 invariant-separator-walking g l =
-    let inside = inside_at (g.C.Chooser.choices l.chooser).chosen (g.S.TermSource.view l.source) g.C.Match.Spans.listed l.job in
-    run (inside l.here l.place) (at l.buf l.pen) ≡ run (inside l.job.term l.start) (at l.initial.buf l.initial.pen)
+    let inside = inside_at (g.C.Chooser.choices l.job.chooser.now).chosen (g.S.TermSource.view l.job.source.now) g.C.Match.Spans.listed l.job in
+    run (inside l.here (ahead_of l.commands)) (state l.pen) ≡ run (inside l.job.term (ahead_of l.initial.commands)) (state l.initial.pen)
 
 abbrev pub decreases-separator-walking : goal.decreases-separator-walking
-decreases-separator-walking g l = length l.job.code.now - l.place
+decreases-separator-walking g l = length (ahead_of l.commands)
 
 abbrev pub invariant-pieces-walking : goal.invariant-pieces-walking
 invariant-pieces-walking g l =
-    let outside = outside_at (g.C.Chooser.choices l.chooser).chosen (g.S.TermSource.view l.source) g.C.Match.Spans.listed l.job in
-    run (outside l.here l.place) (at l.buf l.pen) ≡ run (outside l.job.term 0) (at l.initial.buf l.initial.pen)
+    let outside = outside_at (g.C.Chooser.choices l.job.chooser.now).chosen (g.S.TermSource.view l.job.source.now) g.C.Match.Spans.listed l.job in
+    run (outside l.here (ahead_of l.commands)) (state l.pen) ≡ run (outside l.job.term (ahead l.job.code.now 0)) (state l.initial.pen)
 
 abbrev pub decreases-pieces-walking : goal.decreases-pieces-walking
-decreases-pieces-walking g l = length l.job.code.now - l.place
+decreases-pieces-walking g l = length (ahead_of l.commands)
 
 abbrev pub invariant-row-loop-place : goal.invariant-row-loop-place
 invariant-row-loop-place g l =
-    let m = g.S.TermSource.view l.source in
-    let row = row_at (g.C.Chooser.choices l.chooser).chosen m g.C.Match.Spans.listed l.job l.row in
-    run (row (eqb l.place l.row.first) (drop l.place (take l.row.end (m.children l.row.parent)))) (at l.buf l.pen) ≡ run (row true (children_of m l.row)) (at l.initial.buf l.initial.pen)
+    let m = g.S.TermSource.view l.job.source.now in
+    let row = row_at (g.C.Chooser.choices l.job.chooser.now).chosen m g.C.Match.Spans.listed l.job l.row in
+    run (row (eqb l.place l.row.first) (drop l.place (take l.row.end (m.children l.row.parent)))) (state l.pen) ≡ run (row true (children_of m l.row)) (state l.initial.pen)
