@@ -13,6 +13,7 @@ use Rattle.refusal.specs.declared.error.DeepError.{DeepError}
 use Rattle.refusal.specs.declared.error.DeepError as deep
 use Rattle.refusal.specs.declared.error.FormatterError.{FormatterError}
 use Rattle.refusal.specs.declared.error.FormatterError.TheVariants.{MissingHash, MissingRange, MissingControl, TooManyControl, TooManyChildren, UnexpectedPair, IncorrectControl, InvalidNumber, CaptureOverflow, NumberOutOfRange, TooManyPieces, TemplateTooLong}
+use Rattle.refusal.specs.declared.error.InSeparator.{InSeparator}
 use Rattle.refusal.specs.declared.error.Layer.{Layer}
 use Rattle.refusal.specs.declared.error.Layer.TheVariants.{Template, Matcher, Pattern, Book, Print}
 use Rattle.refusal.specs.declared.error.MatcherError.{MatcherError}
@@ -69,8 +70,24 @@ accepted = record { number = 0; layer = 0; mark = 0; side = 0; piece = 0; place 
 abbrev pub bare : ℕ → Layer → Fault
 bare n l = record { number = n; layer = layer_of l; mark = 0; side = 0; piece = 0; place = 0; length = 0 }
 
+-- a refusal with the n bytes from a place on that are at fault
+abbrev pub located : ℕ → Layer → ℕ → ℕ → Fault
+located number l place n = record { number = number; layer = layer_of l; mark = 0; side = 0; piece = 0; place = place; length = n }
+
 abbrev pub of_formatter : ParseError FormatterError → Fault
 of_formatter e = record { number = formatter_number e.kind; layer = layer_of Template; mark = mark_of e.kind; side = 0; piece = 0; place = e.place; length = e.length }
+
+-- a separator's fault, with the repeat's number and the side
+abbrev pub of_separator : InSeparator → Fault
+of_separator s = record {
+  number = formatter_number s.fault.kind;
+  layer = layer_of Template;
+  mark = mark_of s.fault.kind;
+  side = side_of s.side;
+  piece = s.piece;
+  place = s.fault.place;
+  length = s.fault.length;
+}
 
 -- a fault of the template, or of a separator, then with the repeat's number and the side
 abbrev pub deep_by : ℕ → ℕ → DeepError → Fault

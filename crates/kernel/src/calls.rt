@@ -1,5 +1,5 @@
-ghost use Rattle.std.specs.Prelude.{◌≡◌, ◌≤◌, length, is_some, Ok};
-ghost use Rattle.matchers.specs.Views.{is_pattern, matched};
+ghost use Rattle.std.specs.Prelude.{◌≡◌, ◌≤◌, length, Ok};
+ghost use Rattle.matchers.specs.Views.{matched};
 ghost use Rattle.codes.specs.Calls.{filled, after, encoded, written_back};
 ghost use Rattle.codes.specs.declared.error.CodeError.TheVariants.{BufferTooShort};
 ghost use Rattle.codes.specs.declared.error.EncodeError.TheVariants.{Code};
@@ -9,10 +9,9 @@ ghost use Rattle.grammar.specs.Results.{on_ok};
 ghost use Rattle.grammar.specs.Templates.{formatter_at};
 ghost use Rattle.plain.specs.Rules.{plain_count};
 ghost use Rattle.templates.specs.Views.{seen, summed};
-ghost use Rattle.kernel.specs.Faults.{accepted, of_code, of_encode};
-ghost use Rattle.kernel.specs.Answers.{flag, or_zero, matcher_answer, template_read, template_refused, template_answer, formatter_answer, written_answer, groups_answer};
+ghost use Rattle.kernel.specs.Faults.{of_code, of_encode};
+ghost use Rattle.kernel.specs.Answers.{matcher_answer, template_read, template_answer, formatter_answer, written_answer, groups_answer};
 
-use crate::faults::{none, of_code, of_deep, of_encode, of_formatter, of_matcher, of_pattern};
 use crate::records::{Fault, Groups, Matcher, Template, Written};
 use encode::encode;
 use engine::PatternError;
@@ -22,31 +21,13 @@ use plain::count_groups;
 use templates::{FormatterConst, parse_template};
 use written::write_back;
 
-fn flag_of(n: Option<u32>) -> u32
-    ensures { result ≡ flag (is_some n) }
-{
-    match n {
-        Some(_) => 1,
-        None => 0,
-    }
-}
-
-fn pattern_of(kind: MatcherKindConst) -> u32
-    ensures { result ≡ flag (is_pattern kind) }
-{
-    match kind {
-        MatcherKindConst::Exact => 0,
-        MatcherKindConst::Regex => 1,
-    }
-}
-
 fn matcher_of(m: &MatcherConst) -> Matcher
     ensures { result ≡ matcher_answer (Ok (matched m.now)) }
 {
-    let counted = flag_of(m.children);
-    let pattern = pattern_of(m.kind);
+    let counted = u32::from(m.children.is_some());
+    let pattern = u32::from(m.kind == MatcherKindConst::Regex);
     Matcher {
-        fault: none(),
+        fault: Fault::default(),
         place: (counted + pattern) as usize,
         length: m.data.len(),
         pattern,
@@ -63,12 +44,8 @@ pub extern "C" fn fulgavod_matcher(text: &[u8]) -> Matcher
     match parse_matcher(text) {
         Ok(m) => matcher_of(&m),
         Err(e) => Matcher {
-            fault: of_matcher(e),
-            place: 0,
-            length: 0,
-            pattern: 0,
-            counted: 0,
-            children: 0,
+            fault: e.into(),
+            ..Matcher::default()
         },
     }
 }
@@ -77,29 +54,14 @@ fn template_of(f: &FormatterConst, most: Option<u32>) -> Template
     ensures { result ≡ template_read (seen f.now) most }
 {
     Template {
-        fault: none(),
+        fault: Fault::default(),
         place: f.start,
         length: f.text.len().saturating_sub(f.start),
         pieces: f.outputs,
         left: f.bind_power.left,
         right: f.bind_power.right,
-        captures: flag_of(most),
+        captures: u32::from(most.is_some()),
         capture: most.unwrap_or(0),
-    }
-}
-
-fn refused(fault: Fault) -> Template
-    ensures { result ≡ template_refused fault }
-{
-    Template {
-        fault,
-        place: 0,
-        length: 0,
-        pieces: 0,
-        left: 0,
-        right: 0,
-        captures: 0,
-        capture: 0,
     }
 }
 
@@ -110,7 +72,10 @@ pub extern "C" fn fulgavod_template(text: &[u8]) -> Template
 {
     match parse_template(text) {
         Ok(f) => template_of(&f, f.max_capture),
-        Err(e) => refused(of_formatter(e)),
+        Err(e) => Template {
+            fault: e.into(),
+            ..Template::default()
+        },
     }
 }
 
@@ -121,16 +86,10 @@ pub extern "C" fn fulgavod_formatter(text: &[u8]) -> Template
 {
     match parse_formatter(text) {
         Ok(f) => template_of(&f.parts, f.max_capture),
-        Err(e) => refused(of_deep(e)),
-    }
-}
-
-fn written_of(n: usize) -> Written
-    ensures { result ≡ record { fault = accepted; length = n } }
-{
-    Written {
-        fault: none(),
-        length: n,
+        Err(e) => Template {
+            fault: e.into(),
+            ..Template::default()
+        },
     }
 }
 
@@ -141,9 +100,12 @@ pub extern "C" fn fulgavod_encode(template: &[u8], out: &mut [u8]) -> Written
     ensures buffer { out.new ≡ after (encoded template.now) out.old }
 {
     match encode(template, out) {
-        Ok(n) => written_of(n),
+        Ok(length) => Written {
+            length,
+            ..Written::default()
+        },
         Err(e) => Written {
-            fault: of_encode(e),
+            fault: e.into(),
             length: 0,
         },
     }
@@ -156,9 +118,12 @@ pub extern "C" fn fulgavod_write_back(code: &[u8], out: &mut [u8]) -> Written
     ensures buffer { out.new ≡ after (written_back code.now) out.old }
 {
     match write_back(code, out) {
-        Ok(n) => written_of(n),
+        Ok(length) => Written {
+            length,
+            ..Written::default()
+        },
         Err(e) => Written {
-            fault: of_code(e),
+            fault: e.into(),
             length: 0,
         },
     }
@@ -171,11 +136,11 @@ pub extern "C" fn fulgavod_groups(pattern: &[u8]) -> Groups
 {
     match count_groups(pattern) {
         Some(count) => Groups {
-            fault: none(),
             count,
+            ..Groups::default()
         },
         None => Groups {
-            fault: of_pattern(PatternError::InvalidPattern),
+            fault: PatternError::InvalidPattern.into(),
             count: 0,
         },
     }

@@ -1,24 +1,38 @@
 ghost use Rattle.std.specs.Prelude.{◌≡◌};
-ghost use Rattle.kernel.specs.Faults.{mark_of, side_of, of_formatter, of_deep, of_matcher, of_code, of_encode, of_pattern, accepted};
+ghost use Rattle.kernel.specs.Faults.{layer_of, mark_of, side_of, bare, located, of_formatter, of_separator, of_deep, of_matcher, of_code, of_encode, of_pattern};
 
 use crate::records::Fault;
 use codes::{CodeError, EncodeError};
 use engine::PatternError;
 use refusal::{
-    ClosingMark, DeepError, FormatterError, MatcherError, ParseError, PartingMark, Refusal, Side,
+    ClosingMark, DeepError, FormatterError, InSeparator, Layer, MatcherError, ParseError,
+    PartingMark, Refusal, Side,
 };
 
+// The numbers by which C knows what is an enum here; include/fulgavod.h has the same ones.
+fn layer_of(layer: Layer) -> u32
+    ensures { result ≡ layer_of layer }
+{
+    match layer {
+        Layer::Template => 1,
+        Layer::Matcher => 2,
+        Layer::Pattern => 3,
+        Layer::Book => 4,
+        Layer::Print => 5,
+    }
+}
+
 // The first byte of the mark that a fault names, 0 where it names none.
-fn mark_of(kind: FormatterError) -> u32
+fn mark_of(kind: FormatterError) -> u8
     ensures { result ≡ mark_of kind }
 {
     match kind {
-        FormatterError::MissingControl(ClosingMark::Dollar) => 36,
-        FormatterError::MissingControl(ClosingMark::Square) => 93,
-        FormatterError::MissingControl(ClosingMark::Round) => 41,
-        FormatterError::MissingControl(ClosingMark::Curly) => 125,
-        FormatterError::TooManyControl(PartingMark::Comma) => 44,
-        FormatterError::TooManyControl(PartingMark::Bar) => 124,
+        FormatterError::MissingControl(ClosingMark::Dollar) => b'$',
+        FormatterError::MissingControl(ClosingMark::Square) => b']',
+        FormatterError::MissingControl(ClosingMark::Round) => b')',
+        FormatterError::MissingControl(ClosingMark::Curly) => b'}',
+        FormatterError::TooManyControl(PartingMark::Comma) => b',',
+        FormatterError::TooManyControl(PartingMark::Bar) => b'|',
         _ => 0,
     }
 }
@@ -33,103 +47,93 @@ fn side_of(side: Side) -> u32
     }
 }
 
-// No fault.
-pub(crate) fn none() -> Fault
-    ensures { result ≡ accepted }
+// A refusal that no part of a text is at fault for.
+fn bare<R: Refusal>(e: &R) -> Fault
+    ensures { result ≡ bare (R.numbered e.now) (R.within e.now) }
 {
     Fault {
-        number: 0,
-        layer: 0,
-        mark: 0,
-        side: 0,
-        piece: 0,
-        place: 0,
-        length: 0,
+        number: u32::from(e.number()),
+        layer: layer_of(e.layer()),
+        ..Fault::default()
     }
 }
 
-pub(crate) fn of_formatter(e: ParseError<FormatterError>) -> Fault
-    ensures { result ≡ of_formatter e }
+// A refusal with the part that is at fault.
+fn located<K: Refusal>(e: &ParseError<K>) -> Fault
+    ensures { result ≡ located (K.numbered e.now.kind) (K.within e.now.kind) e.now.place e.now.length }
 {
     Fault {
-        number: e.kind.number() as u32,
-        layer: 1,
-        mark: mark_of(e.kind),
-        side: 0,
-        piece: 0,
         place: e.place,
         length: e.length,
+        ..bare(e)
     }
 }
 
-pub(crate) fn of_deep(e: ParseError<DeepError>) -> Fault
-    ensures { result ≡ of_deep e }
-{
-    match e.kind {
-        DeepError::Formatter(kind) => of_formatter(ParseError {
-            place: e.place,
-            length: e.length,
-            kind,
-        }),
-        DeepError::Separator(inner) => Fault {
-            number: inner.fault.kind.number() as u32,
-            layer: 1,
-            mark: mark_of(inner.fault.kind),
-            side: side_of(inner.side),
-            piece: inner.piece,
-            place: inner.fault.place,
-            length: inner.fault.length,
-        },
+impl From<ParseError<FormatterError>> for Fault {
+    ghost from_gives = { λ e r. r ≡ of_formatter e };
+
+    fn from(e: ParseError<FormatterError>) -> Fault {
+        Fault {
+            mark: u32::from(mark_of(e.kind)),
+            ..located(&e)
+        }
     }
 }
 
-pub(crate) fn of_matcher(e: ParseError<MatcherError>) -> Fault
-    ensures { result ≡ of_matcher e }
-{
-    Fault {
-        number: e.kind.number() as u32,
-        layer: 2,
-        mark: 0,
-        side: 0,
-        piece: 0,
-        place: e.place,
-        length: e.length,
+impl From<InSeparator> for Fault {
+    ghost from_gives = { λ e r. r ≡ of_separator e };
+
+    fn from(e: InSeparator) -> Fault {
+        Fault {
+            side: side_of(e.side),
+            piece: e.piece,
+            ..Fault::from(e.fault)
+        }
     }
 }
 
-pub(crate) fn of_code(e: CodeError) -> Fault
-    ensures { result ≡ of_code e }
-{
-    Fault {
-        number: e.number() as u32,
-        layer: 4,
-        mark: 0,
-        side: 0,
-        piece: 0,
-        place: 0,
-        length: 0,
+impl From<ParseError<DeepError>> for Fault {
+    ghost from_gives = { λ e r. r ≡ of_deep e };
+
+    fn from(e: ParseError<DeepError>) -> Fault {
+        match e.kind {
+            DeepError::Formatter(kind) => Fault::from(e.with(kind)),
+            DeepError::Separator(inner) => Fault::from(inner),
+        }
     }
 }
 
-pub(crate) fn of_encode(e: EncodeError) -> Fault
-    ensures { result ≡ of_encode e }
-{
-    match e {
-        EncodeError::Formatter(inner) => of_deep(inner),
-        EncodeError::Code(inner) => of_code(inner),
+impl From<ParseError<MatcherError>> for Fault {
+    ghost from_gives = { λ e r. r ≡ of_matcher e };
+
+    fn from(e: ParseError<MatcherError>) -> Fault {
+        located(&e)
     }
 }
 
-pub(crate) fn of_pattern(e: PatternError) -> Fault
-    ensures { result ≡ of_pattern e }
-{
-    Fault {
-        number: e.number() as u32,
-        layer: 3,
-        mark: 0,
-        side: 0,
-        piece: 0,
-        place: 0,
-        length: 0,
+impl From<CodeError> for Fault {
+    ghost from_gives = { λ e r. r ≡ of_code e };
+
+    fn from(e: CodeError) -> Fault {
+        bare(&e)
+    }
+}
+
+impl From<EncodeError> for Fault {
+    ghost from_gives = { λ e r. r ≡ of_encode e };
+
+    fn from(e: EncodeError) -> Fault {
+        match e {
+            EncodeError::Formatter(inner) => Fault::from(inner),
+            EncodeError::Code(inner) => Fault::from(inner),
+        }
+    }
+}
+
+impl From<PatternError> for Fault {
+    ghost from_gives = { λ e r. r ≡ of_pattern e };
+
+    fn from(e: PatternError) -> Fault {
+        bare(&e)
     }
 }

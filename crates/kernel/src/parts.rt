@@ -4,36 +4,34 @@ ghost use Rattle.plain.specs.Rules.{plain_count, plain_spans, listing};
 ghost use Rattle.kernel.specs.Answers.{groups_answer, part_of, match_answer, parts_after};
 
 use crate::calls::fulgavod_groups;
-use crate::faults::{none, of_code};
-use crate::records::{Matched, Part};
+use crate::records::{Fault, Matched, Part};
 use codes::CodeError;
 use engine::{Span, Spans};
 use plain::{PlainMatch, match_name};
 
-fn part_of(span: Option<Span>) -> Part
-    ensures { result ≡ part_of span }
-{
-    match span {
-        Some(s) => Part {
-            taken: 1,
-            from: s.from,
-            to: s.to,
-        },
-        None => Part {
-            taken: 0,
-            from: 0,
-            to: 0,
-        },
+// What a group took.
+impl From<Option<Span>> for Part {
+    ghost from_gives = { λ s r. r ≡ part_of s };
+
+    fn from(span: Option<Span>) -> Part {
+        match span {
+            Some(s) => Part {
+                taken: 1,
+                from: s.from,
+                to: s.to,
+            },
+            None => Part::default(),
+        }
     }
 }
 
-// Writes the parts of a match to the start of the buffer.
+// Writes the parts of a match to the start of the buffer. By number, since a number names the span as well as the part.
 fn put_parts(found: &PlainMatch, parts: &mut [Part])
     requires { length (listing found.now) ≤ length parts.old }
     ensures { parts.new ≡ sets parts.old 0 (map part_of (listing found.now)) }
 {
     for k in 0..found.count() {
-        parts[k] = part_of(found.at(k));
+        parts[k] = Part::from(found.at(k));
     }
 }
 
@@ -43,14 +41,13 @@ fn matched(found: &PlainMatch, parts: &mut [Part]) -> Matched
 {
     if found.count() > parts.len() {
         return Matched {
-            fault: of_code(CodeError::BufferTooShort),
-            matches: 0,
-            count: 0,
+            fault: CodeError::BufferTooShort.into(),
+            ..Matched::default()
         };
     }
     put_parts(found, parts);
     Matched {
-        fault: none(),
+        fault: Fault::default(),
         matches: 1,
         count: found.count(),
     }
@@ -66,8 +63,7 @@ pub extern "C" fn fulgavod_match(pattern: &[u8], name: &[u8], parts: &mut [Part]
         Some(found) => matched(&found, parts),
         None => Matched {
             fault: fulgavod_groups(pattern).fault,
-            matches: 0,
-            count: 0,
+            ..Matched::default()
         },
     }
 }

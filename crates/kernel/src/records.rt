@@ -1,6 +1,8 @@
+// The records are those of include/fulgavod.h: C has no Option and no bool of ours, so 1 and 0 say whether something is there.
+
 // What is refused, in plain numbers: all of them 0 where nothing is.
 #[repr(C)]
-#[derive(Clone, Copy)]
+#[derive(Clone, Copy, Default)]
 pub struct Fault {
     pub number: u32,
     // 1 template, 2 matcher, 3 pattern, 4 book, 5 print
@@ -17,7 +19,7 @@ pub struct Fault {
 
 // A matcher: where its data stands in the text, whether that is a pattern, and the child count, if one is given.
 #[repr(C)]
-#[derive(Clone, Copy)]
+#[derive(Clone, Copy, Default)]
 pub struct Matcher {
     pub fault: Fault,
     pub place: usize,
@@ -29,7 +31,7 @@ pub struct Matcher {
 
 // A template: its powers, where its pieces stand, how many they are, and the greatest capture, if there is one.
 #[repr(C)]
-#[derive(Clone, Copy)]
+#[derive(Clone, Copy, Default)]
 pub struct Template {
     pub fault: Fault,
     pub place: usize,
@@ -43,7 +45,7 @@ pub struct Template {
 
 // How many bytes were written.
 #[repr(C)]
-#[derive(Clone, Copy)]
+#[derive(Clone, Copy, Default)]
 pub struct Written {
     pub fault: Fault,
     pub length: usize,
@@ -51,7 +53,7 @@ pub struct Written {
 
 // The group count of a pattern, the whole name among them.
 #[repr(C)]
-#[derive(Clone, Copy)]
+#[derive(Clone, Copy, Default)]
 pub struct Groups {
     pub fault: Fault,
     pub count: usize,
@@ -59,7 +61,7 @@ pub struct Groups {
 
 // Whether a name matches, and how many parts were written.
 #[repr(C)]
-#[derive(Clone, Copy)]
+#[derive(Clone, Copy, Default)]
 pub struct Matched {
     pub fault: Fault,
     pub matches: u32,
@@ -68,7 +70,7 @@ pub struct Matched {
 
 // The part of a name that a group took, if it took one.
 #[repr(C)]
-#[derive(Clone, Copy)]
+#[derive(Clone, Copy, Default)]
 pub struct Part {
     pub taken: u32,
     pub from: usize,

@@ -10,9 +10,6 @@ loop-k-preserved c =
     let l = listing c.args.found.now in
     let k = c.loop-k.k in
     let i = c.loop-k.invariant in
-    let e = c.part_of.ensures ∙ ap part_of c.at.ensures in
-    let s = length-set c.loop-k.parts k c.part_of.result in
+    let e = c.from.ensures ∙ ap part_of c.at.ensures in
+    let s = length-set c.loop-k.parts k c.from.result in
     (ap (λ p. sets (set c.loop-k.parts k p) (k + 1) (drop (k + 1) (map part_of l))) e ∙ one_more l k c.loop-k.parts (omega arith) ∙ i.0, omega (arith, s, i.1))
-
-pub returns : goal.returns
-returns c = sym (all_done (listing c.args.found.now) c.loop-k.k c.loop-k.parts (omega arith)) ∙ c.loop-k.invariant.0
