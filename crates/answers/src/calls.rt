@@ -1,154 +1,138 @@
-use crate::dump::Form;
-use crate::hex::{push_hex, unhex};
-use crate::{dump, engines, faults, sources};
+use crate::dump::{Capture, ReadTemplate, TypedTemplate};
+use crate::faults::Fault;
+use crate::hex::{Hex, unhex};
+use crate::{engines, sources};
 use encode::encode;
 use formatter::{parse_fallback, parse_formatter};
+use grammar::{CODE_LIMIT, TEMPLATE_LIMIT};
 use matchers::{MatcherConst, MatcherKindConst, parse_matcher};
 use std::alloc::Global;
-use std::fmt::Write;
+use std::fmt;
 use templates::{parse_definition, parse_template};
 use written::write_back;
 
-// The answer to a line.
-pub fn answer(heap: Global, line: &str) -> anyhow::Result<String> {
-    let mut words = line.split_whitespace();
-    let command = words.next().unwrap_or("");
-    let one = words.next();
-    let two = words.next();
-    match (command, one, two) {
-        ("table", Some(terms), None) => or_bad(heap, sources::table(heap, terms)?),
-        ("tape", Some(terms), None) => or_bad(heap, sources::tape(heap, terms)?),
-        ("display", _, None) => said(heap, "bad command"),
-        ("match", _, None) => said(heap, "bad command"),
-        _ => {
-            let first = unhex(heap, one.unwrap_or("?"))?;
-            let second = unhex(heap, two.unwrap_or("-"))?;
-            match (first, second, words.next()) {
-                (Some(a), Some(b), None) => call(heap, command, a.as_slice(), b.as_slice()),
-                _ => said(heap, "bad command"),
-            }
+// `ok` and what is accepted, or `err` and why it is not.
+#[derive(Clone, Copy)]
+pub struct Answer<T, E>(pub Result<T, E>);
+
+impl<T: fmt::Display, E: fmt::Display> fmt::Display for Answer<T, E> {
+    fn fmt<W: fmt::Write>(&self, f: &mut fmt::Formatter<W>) -> fmt::Result {
+        match &self.0 {
+            Ok(accepted) => write!(f, "ok {accepted}"),
+            Err(fault) => write!(f, "err {fault}"),
         }
     }
 }
 
-fn said(heap: Global, text: &str) -> anyhow::Result<String> {
-    Ok(String::from_str(heap, text)?)
+// `ok` alone, or `err` and why not.
+#[derive(Clone, Copy)]
+pub struct Verdict<E>(pub Result<(), E>);
+
+impl<E: fmt::Display> fmt::Display for Verdict<E> {
+    fn fmt<W: fmt::Write>(&self, f: &mut fmt::Formatter<W>) -> fmt::Result {
+        match &self.0 {
+            Ok(()) => f.write_str("ok"),
+            Err(fault) => write!(f, "err {fault}"),
+        }
+    }
 }
 
-fn or_bad(heap: Global, answer: Option<String>) -> anyhow::Result<String> {
-    match answer {
+// The answer to a line.
+pub fn answer_to(heap: Global, line: &str) -> anyhow::Result<String> {
+    match known(heap, line)? {
         Some(text) => Ok(text),
         None => said(heap, "bad command"),
     }
 }
 
-fn call<'a>(heap: Global, command: &str, a: &'a [u8], b: &'a [u8]) -> anyhow::Result<String> {
-    match command {
-        "template" => template(heap, a),
-        "formatter" => whole(heap, a),
-        "matcher" => matcher(heap, a),
-        "definition" => definition(heap, a, b),
-        "fallback" => fallback(heap, a),
-        "code" => code(heap, a),
-        "decode" => decode(heap, a),
-        "display" => engines::display(heap, a, b),
-        "match" => engines::matching(heap, a, b),
-        _ => said(heap, "bad command"),
-    }
-}
-
-fn template(heap: Global, text: &[u8]) -> anyhow::Result<String> {
-    let mut out = String::new(heap);
-    match parse_template(text) {
-        Ok(read) => dump::push_template(heap, &mut out, read, read.max_capture, Form::Typed)?,
-        Err(fault) => {
-            out.push_str("err ")?;
-            faults::push_formatter(&mut out, fault)?;
+// The same, none for a line that is not known.
+fn known(heap: Global, line: &str) -> anyhow::Result<Option<String>> {
+    let mut words = line.split_whitespace();
+    let command = words.next().unwrap_or("");
+    let one = words.next();
+    let two = words.next();
+    match (command, one, two) {
+        ("table", Some(terms), None) => sources::table(heap, terms),
+        ("tape", Some(terms), None) => sources::tape(heap, terms),
+        ("display" | "match", _, None) => Ok(None),
+        _ => {
+            let first = unhex(heap, one.unwrap_or("?"))?;
+            let second = unhex(heap, two.unwrap_or("-"))?;
+            match (first, second, words.next()) {
+                (Some(a), Some(b), None) => call(heap, command, a.as_slice(), b.as_slice()),
+                _ => Ok(None),
+            }
         }
     }
-    Ok(out)
 }
 
-fn whole(heap: Global, text: &[u8]) -> anyhow::Result<String> {
-    let mut out = String::new(heap);
-    match parse_formatter(text) {
-        Ok(read) => dump::push_formatter(heap, &mut out, read)?,
-        Err(fault) => faults::push_deep(&mut out, fault)?,
-    }
-    Ok(out)
+pub fn said<T: fmt::Display + Drop>(heap: Global, answer: T) -> anyhow::Result<String> {
+    Ok(answer.to_string(heap)?)
 }
 
-fn matcher(heap: Global, text: &[u8]) -> anyhow::Result<String> {
-    let mut out = String::new(heap);
-    match parse_matcher(text) {
-        Ok(read) => push_matcher(&mut out, read)?,
-        Err(fault) => {
-            out.push_str("err ")?;
-            faults::push_matcher(&mut out, fault)?;
+fn call(heap: Global, command: &str, a: &[u8], b: &[u8]) -> anyhow::Result<Option<String>> {
+    Ok(Some(match command {
+        "template" => said(
+            heap,
+            Answer(parse_template(a).map(TypedTemplate).map_err(Fault)),
+        )?,
+        "formatter" => said(
+            heap,
+            Answer(parse_formatter(a).map(ReadTemplate).map_err(Fault)),
+        )?,
+        "matcher" => said(heap, Answer(parse_matcher(a).map(Matcher).map_err(Fault)))?,
+        "definition" => said(
+            heap,
+            Verdict(parse_definition(a, b).map(|_| ()).map_err(Fault)),
+        )?,
+        "fallback" => fallback(heap, a)?,
+        "code" => code(heap, a)?,
+        "decode" => decode(heap, a)?,
+        "display" => said(heap, Verdict(engines::display(a, b).map_err(Fault)))?,
+        "match" => engines::matching(heap, a, b)?,
+        _ => return Ok(None),
+    }))
+}
+
+// `exact DATA COUNT` or `pattern DATA COUNT`.
+#[derive(Clone, Copy)]
+struct Matcher<'a>(MatcherConst<'a>);
+
+impl fmt::Display for Matcher<'_> {
+    fn fmt<W: fmt::Write>(&self, f: &mut fmt::Formatter<W>) -> fmt::Result {
+        let kind = match self.0.kind {
+            MatcherKindConst::Exact => "exact",
+            MatcherKindConst::Regex => "pattern",
+        };
+        write!(f, "{kind} {} ", Hex(self.0.data))?;
+        match self.0.children {
+            Some(n) => write!(f, "{n}"),
+            None => f.write_str("none"),
         }
     }
-    Ok(out)
-}
-
-fn push_matcher(out: &mut String, read: MatcherConst) -> anyhow::Result<()> {
-    match read.kind {
-        MatcherKindConst::Exact => out.push_str("ok exact ")?,
-        MatcherKindConst::Regex => out.push_str("ok pattern ")?,
-    }
-    push_hex(out, read.data)?;
-    match read.children {
-        Some(n) => write!(out, " {n}")?,
-        None => out.push_str(" none")?,
-    }
-    Ok(())
-}
-
-fn definition<'a>(heap: Global, matcher: &'a [u8], template: &'a [u8]) -> anyhow::Result<String> {
-    let mut out = String::new(heap);
-    match parse_definition(matcher, template) {
-        Ok(_) => out.push_str("ok")?,
-        Err(fault) => faults::push_either(&mut out, fault)?,
-    }
-    Ok(out)
 }
 
 fn fallback(heap: Global, text: &[u8]) -> anyhow::Result<String> {
-    let mut out = String::new(heap);
-    match parse_fallback(text) {
-        Ok(read) => {
-            out.push_str("ok ")?;
-            dump::push_capture(&mut out, read.max_capture)?;
-        }
-        Err(fault) => faults::push_fallback(&mut out, fault)?,
-    }
-    Ok(out)
+    let read = parse_fallback(text);
+    said(
+        heap,
+        Answer(read.map(|f| Capture(f.max_capture)).map_err(Fault)),
+    )
 }
 
-// What was written into a buffer.
-fn push_front(out: &mut String, buffer: &[u8], size: usize) -> anyhow::Result<()> {
-    out.push_str("ok ")?;
-    if size <= buffer.len() {
-        push_hex(out, &buffer[0..size])?;
-    }
-    Ok(())
+// What was written into the front of a buffer.
+fn front(buffer: &[u8], size: usize) -> Hex<'_> {
+    Hex(buffer.get(..size).unwrap_or(&[]))
 }
 
 fn code(heap: Global, template: &[u8]) -> anyhow::Result<String> {
-    let mut out = String::new(heap);
-    let mut buffer = [0u8; 1024];
-    match encode(template, &mut buffer) {
-        Ok(size) => push_front(&mut out, &buffer, size)?,
-        Err(fault) => faults::push_encode(&mut out, fault)?,
-    }
-    Ok(out)
+    let mut buffer = [0; CODE_LIMIT];
+    let size = encode(template, &mut buffer);
+    said(heap, Answer(size.map(|n| front(&buffer, n)).map_err(Fault)))
 }
 
 fn decode(heap: Global, bytes: &[u8]) -> anyhow::Result<String> {
-    let mut out = String::new(heap);
-    let mut buffer = [0u8; 4096];
-    match write_back(bytes, &mut buffer) {
-        Ok(size) => push_front(&mut out, &buffer, size)?,
-        Err(fault) => faults::push_code(&mut out, fault)?,
-    }
-    Ok(out)
+    let mut buffer = [0; TEMPLATE_LIMIT];
+    let size = write_back(bytes, &mut buffer);
+    said(heap, Answer(size.map(|n| front(&buffer, n)).map_err(Fault)))
 }

@@ -1,216 +1,219 @@
-use crate::hex::push_hex;
-use controls::{SubFormatterConst, step_at};
+use crate::hex::{Hex, write_hex};
+use crate::parted::write_parted;
+use controls::{Halved, Steps, SubFormatterConst};
 use formatter::{Formatter, halve};
-use grammar::{BindPowerPair, ChildIndex};
-use std::alloc::Global;
-use std::fmt::Write;
-use templates::{FormatterConst, output_at, parse_template};
+use grammar::{BindPowerPair, ChildIndex, TEMPLATE_LIMIT};
+use std::fmt;
+use templates::{FormatterConst, parse_template};
 
-pub fn push_capture(out: &mut String, most: Option<u32>) -> anyhow::Result<()> {
-    match most {
-        Some(n) => write!(out, "{n}")?,
-        None => out.push('~')?,
-    }
-    Ok(())
-}
+// The greatest capture, `~` for none.
+#[derive(Clone, Copy)]
+pub struct Capture(pub Option<u32>);
 
-// The steps of a path, parted by dots, `~` for none.
-fn push_steps(out: &mut String, path: &[u8]) -> anyhow::Result<()> {
-    let mut at = 1;
-    let mut first = true;
-    while let Some((step, next)) = step_at(path, at) {
-        if !first {
-            out.push('.')?;
+impl fmt::Display for Capture {
+    fn fmt<W: fmt::Write>(&self, f: &mut fmt::Formatter<W>) -> fmt::Result {
+        match self.0 {
+            Some(n) => write!(f, "{n}"),
+            None => f.write_str("~"),
         }
-        let number = step.0;
-        write!(out, "{number}")?;
-        first = false;
-        at = next;
     }
-    if first {
-        out.push('~')?;
-    }
-    Ok(())
 }
 
-fn push_child(
-    out: &mut String,
-    path: &[u8],
-    index: ChildIndex,
-    pair: BindPowerPair,
-) -> anyhow::Result<()> {
-    out.push_str("c:")?;
-    push_steps(out, path)?;
-    let index = index.0;
-    let left = pair.left;
-    let right = pair.right;
-    write!(out, ":{index}:{left}:{right}")?;
-    Ok(())
+// `LEFT:RIGHT`.
+#[derive(Clone, Copy)]
+struct Powers(BindPowerPair);
+
+impl fmt::Display for Powers {
+    fn fmt<W: fmt::Write>(&self, f: &mut fmt::Formatter<W>) -> fmt::Result {
+        let BindPowerPair { left, right } = self.0;
+        write!(f, "{left}:{right}")
+    }
 }
 
-fn push_range(
-    out: &mut String,
-    path: &[u8],
+// A number of a path.
+#[derive(Clone, Copy)]
+struct Index(ChildIndex);
+
+impl fmt::Display for Index {
+    fn fmt<W: fmt::Write>(&self, f: &mut fmt::Formatter<W>) -> fmt::Result {
+        let number = self.0.0;
+        write!(f, "{number}")
+    }
+}
+
+// The steps of a path, parted by dots.
+#[derive(Clone, Copy)]
+struct Way<'a>(&'a [u8]);
+
+impl fmt::Display for Way<'_> {
+    fn fmt<W: fmt::Write>(&self, f: &mut fmt::Formatter<W>) -> fmt::Result {
+        write_parted(f, '.', Steps::of(self.0).map(Index))
+    }
+}
+
+// A piece that is no repeat, the pairs of `$` in its text halved.
+#[derive(Clone, Copy)]
+struct Plain<'a>(SubFormatterConst<'a>);
+
+impl fmt::Display for Plain<'_> {
+    fn fmt<W: fmt::Write>(&self, f: &mut fmt::Formatter<W>) -> fmt::Result {
+        match self.0 {
+            SubFormatterConst::String(text) => {
+                f.write_str("t:")?;
+                write_hex(f, Halved::of(text, b'$'))
+            }
+            SubFormatterConst::Single {
+                path,
+                index,
+                bind_power,
+            } => write!(f, "c:{}:{}:{}", Way(path), Index(index), Powers(bind_power)),
+            SubFormatterConst::Capture(n) => write!(f, "k:{n}"),
+            SubFormatterConst::Repeat { .. } => Ok(()),
+        }
+    }
+}
+
+// A separator, its bars halved and read as a template. The room is that of the longest template.
+#[derive(Clone, Copy)]
+struct Separator<'a>(&'a [u8]);
+
+impl fmt::Display for Separator<'_> {
+    fn fmt<W: fmt::Write>(&self, f: &mut fmt::Formatter<W>) -> fmt::Result {
+        let mut scratch = [0; TEMPLATE_LIMIT];
+        let size = halve(self.0, b'|', &mut scratch).unwrap_or(0);
+        let Some(Ok(read)) = scratch.get(..size).map(|bytes| parse_template(bytes)) else {
+            return Ok(());
+        };
+        let BindPowerPair { left, right } = read.bind_power;
+        write!(f, "{left}/{right}/{}/", Capture(read.max_capture))?;
+        write_parted(f, ',', read.outputs().map(Plain))
+    }
+}
+
+// The range and the powers of a repeat.
+#[derive(Clone, Copy)]
+struct Range<'a> {
+    path: &'a [u8],
     from: ChildIndex,
     to: ChildIndex,
     left: u32,
     middle: BindPowerPair,
     right: u32,
-) -> anyhow::Result<()> {
-    out.push_str("r:")?;
-    push_steps(out, path)?;
-    let from = from.0;
-    let to = to.0;
-    let a = middle.left;
-    let b = middle.right;
-    write!(out, ":{from}:{to}:{left}:{a}:{b}:{right}")?;
-    Ok(())
 }
 
-// The text with pairs of a mark halved.
-fn halved(heap: Global, text: &[u8], mark: u8) -> anyhow::Result<Vec<u8>> {
-    let mut bytes = text.to_vec(heap)?;
-    let size = halve(text, mark, bytes.as_mut_slice()).unwrap_or(0);
-    bytes.truncate(size);
-    Ok(bytes)
-}
-
-// How pieces are shown: as typed, or with marks halved and separators read.
-#[derive(Clone, Copy, PartialEq, Eq)]
-pub enum Form {
-    Typed,
-    Read,
-}
-
-fn push_text(heap: Global, out: &mut String, text: &[u8], form: Form) -> anyhow::Result<()> {
-    out.push_str("t:")?;
-    match form {
-        Form::Typed => push_hex(out, text),
-        Form::Read => push_hex(out, halved(heap, text, b'$')?.as_slice()),
+impl fmt::Display for Range<'_> {
+    fn fmt<W: fmt::Write>(&self, f: &mut fmt::Formatter<W>) -> fmt::Result {
+        let Range { left, right, .. } = *self;
+        write!(
+            f,
+            "r:{}:{}:{}:{left}:{}:{right}",
+            Way(self.path),
+            Index(self.from),
+            Index(self.to),
+            Powers(self.middle)
+        )
     }
 }
 
-fn push_separator(heap: Global, out: &mut String, text: &[u8], form: Form) -> anyhow::Result<()> {
-    out.push('|')?;
-    match form {
-        Form::Typed => push_hex(out, text),
-        Form::Read => {
-            let bytes = halved(heap, text, b'|')?;
-            match parse_template(bytes.as_slice()) {
-                Ok(read) => push_read_separator(heap, out, read),
-                Err(_) => Ok(()),
+// A piece as it was typed: texts and separators with their marks doubled.
+#[derive(Clone, Copy)]
+struct Typed<'a>(SubFormatterConst<'a>);
+
+impl fmt::Display for Typed<'_> {
+    fn fmt<W: fmt::Write>(&self, f: &mut fmt::Formatter<W>) -> fmt::Result {
+        match self.0 {
+            SubFormatterConst::String(text) => write!(f, "t:{}", Hex(text)),
+            SubFormatterConst::Repeat {
+                path,
+                from,
+                to,
+                left,
+                middle,
+                right,
+                left_sep,
+                middle_sep,
+                right_sep,
+            } => {
+                let range = Range {
+                    path,
+                    from,
+                    to,
+                    left,
+                    middle,
+                    right,
+                };
+                write!(
+                    f,
+                    "{range}|{}|{}|{}",
+                    Hex(left_sep),
+                    Hex(middle_sep),
+                    Hex(right_sep)
+                )
             }
+            other => Plain(other).fmt(f),
         }
     }
 }
 
-// A piece of a separator: text, child or capture.
-fn push_plain(heap: Global, out: &mut String, piece: SubFormatterConst) -> anyhow::Result<()> {
-    match piece {
-        SubFormatterConst::String(text) => push_text(heap, out, text, Form::Read),
-        SubFormatterConst::Single {
-            path,
-            index,
-            bind_power,
-        } => push_child(out, path, index, bind_power),
-        SubFormatterConst::Repeat { .. } => Ok(()),
-        SubFormatterConst::Capture(n) => {
-            write!(out, "k:{n}")?;
-            Ok(())
+// A piece with its text halved, or its separators read.
+#[derive(Clone, Copy)]
+struct Read<'a>(SubFormatterConst<'a>);
+
+impl fmt::Display for Read<'_> {
+    fn fmt<W: fmt::Write>(&self, f: &mut fmt::Formatter<W>) -> fmt::Result {
+        match self.0 {
+            SubFormatterConst::Repeat {
+                path,
+                from,
+                to,
+                left,
+                middle,
+                right,
+                left_sep,
+                middle_sep,
+                right_sep,
+            } => {
+                let range = Range {
+                    path,
+                    from,
+                    to,
+                    left,
+                    middle,
+                    right,
+                };
+                write!(
+                    f,
+                    "{range}|{}|{}|{}",
+                    Separator(left_sep),
+                    Separator(middle_sep),
+                    Separator(right_sep)
+                )
+            }
+            other => Plain(other).fmt(f),
         }
     }
 }
 
-fn push_read_separator(heap: Global, out: &mut String, read: FormatterConst) -> anyhow::Result<()> {
-    let left = read.bind_power.left;
-    let right = read.bind_power.right;
-    write!(out, "{left}/{right}/")?;
-    push_capture(out, read.max_capture)?;
-    out.push('/')?;
-    push_plains(heap, out, read.text, read.start)
-}
+// `LEFT RIGHT CAPTURE PIECES` of a template as it was typed.
+#[derive(Clone, Copy)]
+pub struct TypedTemplate<'a>(pub FormatterConst<'a>);
 
-// The pieces of a separator, parted by commas, `~` for none.
-fn push_plains(heap: Global, out: &mut String, text: &[u8], start: usize) -> anyhow::Result<()> {
-    let mut at = start;
-    while let Some((piece, used)) = output_at(text, at) {
-        if at > start {
-            out.push(',')?;
-        }
-        push_plain(heap, out, piece)?;
-        at += used;
-    }
-    if at == start {
-        out.push('~')?;
-    }
-    Ok(())
-}
-
-fn push_piece(
-    heap: Global,
-    out: &mut String,
-    piece: SubFormatterConst,
-    form: Form,
-) -> anyhow::Result<()> {
-    match piece {
-        SubFormatterConst::String(text) => push_text(heap, out, text, form),
-        SubFormatterConst::Repeat {
-            path,
-            from,
-            to,
-            left,
-            middle,
-            right,
-            left_sep,
-            middle_sep,
-            right_sep,
-        } => {
-            push_range(out, path, from, to, left, middle, right)?;
-            push_separator(heap, out, left_sep, form)?;
-            push_separator(heap, out, middle_sep, form)?;
-            push_separator(heap, out, right_sep, form)
-        }
-        other => push_plain(heap, out, other),
+impl fmt::Display for TypedTemplate<'_> {
+    fn fmt<W: fmt::Write>(&self, f: &mut fmt::Formatter<W>) -> fmt::Result {
+        let BindPowerPair { left, right } = self.0.bind_power;
+        write!(f, "{left} {right} {} ", Capture(self.0.max_capture))?;
+        write_parted(f, ';', self.0.outputs().map(Typed))
     }
 }
 
-fn push_pieces(
-    heap: Global,
-    out: &mut String,
-    text: &[u8],
-    start: usize,
-    form: Form,
-) -> anyhow::Result<()> {
-    let mut at = start;
-    while let Some((piece, used)) = output_at(text, at) {
-        if at > start {
-            out.push(';')?;
-        }
-        push_piece(heap, out, piece, form)?;
-        at += used;
-    }
-    if at == start {
-        out.push('~')?;
-    }
-    Ok(())
-}
+// The same of a template whose separators are read.
+#[derive(Clone, Copy)]
+pub struct ReadTemplate<'a>(pub Formatter<'a>);
 
-// `ok LEFT RIGHT CAPTURE PIECES`.
-pub fn push_template(
-    heap: Global,
-    out: &mut String,
-    read: FormatterConst,
-    most: Option<u32>,
-    form: Form,
-) -> anyhow::Result<()> {
-    let left = read.bind_power.left;
-    let right = read.bind_power.right;
-    write!(out, "ok {left} {right} ")?;
-    push_capture(out, most)?;
-    out.push(' ')?;
-    push_pieces(heap, out, read.text, read.start, form)
-}
-
-pub fn push_formatter(heap: Global, out: &mut String, read: Formatter) -> anyhow::Result<()> {
-    push_template(heap, out, read.parts, read.max_capture, Form::Read)
+impl fmt::Display for ReadTemplate<'_> {
+    fn fmt<W: fmt::Write>(&self, f: &mut fmt::Formatter<W>) -> fmt::Result {
+        let BindPowerPair { left, right } = self.0.parts.bind_power;
+        write!(f, "{left} {right} {} ", Capture(self.0.max_capture))?;
+        write_parted(f, ';', self.0.parts.outputs().map(Read))
+    }
 }

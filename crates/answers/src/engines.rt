@@ -1,80 +1,66 @@
-use crate::faults;
-use displays::check_definition;
-use engine::{PatternEngine, PatternError, Spans};
+use crate::calls::said;
+use crate::faults::Fault;
+use crate::parted::write_parted;
+use displays::{ConversionError, check_definition};
+use engine::{PatternEngine, Span, Spans};
 use plain::PlainEngine;
-use refusal::Refusal;
 use std::alloc::Global;
-use std::fmt::Write;
+use std::fmt;
 
 // A definition, checked with a plain engine that holds nothing. What is prepared is given back.
-pub fn display<'a>(heap: Global, matcher: &'a [u8], template: &'a [u8]) -> anyhow::Result<String> {
-    let mut out = String::new(heap);
+pub fn display(matcher: &[u8], template: &[u8]) -> Result<(), ConversionError> {
     let mut engine = PlainEngine::new();
-    match check_definition(&mut engine, matcher, template) {
-        Ok(Some(ticket)) => {
-            let _ = engine.give_back(ticket);
-            out.push_str("ok")?;
-        }
-        Ok(None) => out.push_str("ok")?,
-        Err(fault) => faults::push_conversion(&mut out, fault)?,
+    if let Some(ticket) = check_definition(&mut engine, matcher, template)? {
+        let _ = engine.give_back(ticket);
     }
-    Ok(out)
+    Ok(())
+}
+
+// The part of a name that a group took, `~` for none.
+#[derive(Clone, Copy)]
+struct Part(Option<Span>);
+
+impl fmt::Display for Part {
+    fn fmt<W: fmt::Write>(&self, f: &mut fmt::Formatter<W>) -> fmt::Result {
+        match self.0 {
+            Some(Span { from, to }) => write!(f, "{from}-{to}"),
+            None => f.write_str("~"),
+        }
+    }
+}
+
+// The match of a pattern with so many groups, if there is one.
+#[derive(Drop)]
+struct Found<M> {
+    groups: usize,
+    spans: Option<M>,
+}
+
+impl<M: Spans> fmt::Display for Found<M> {
+    fn fmt<W: fmt::Write>(&self, f: &mut fmt::Formatter<W>) -> fmt::Result {
+        let groups = self.groups;
+        match &self.spans {
+            Some(spans) => {
+                write!(f, "yes {groups} ")?;
+                write_parted(f, ',', (0..groups).map(|k| Part(spans.at(k))))
+            }
+            None => write!(f, "no {groups}"),
+        }
+    }
 }
 
 // The match of a pattern with a name, in the plain engine.
 pub fn matching(heap: Global, text: &[u8], name: &[u8]) -> anyhow::Result<String> {
-    let mut out = String::new(heap);
     let mut engine = PlainEngine::new();
-    match engine.prepare(text) {
-        Ok(ticket) => {
-            let groups = engine.count(ticket.number()).unwrap_or(0);
-            let found = engine.matched(ticket.number(), name);
-            let _ = engine.give_back(ticket);
-            push_found(&mut out, groups, found)?;
-        }
-        Err(fault) => push_refused(&mut out, fault)?,
-    }
-    Ok(out)
-}
-
-fn push_refused(out: &mut String, fault: PatternError) -> anyhow::Result<()> {
-    let number = fault.number();
-    write!(out, "err {number}")?;
-    Ok(())
-}
-
-fn push_found<M: Spans + Drop>(
-    out: &mut String,
-    groups: usize,
-    found: Result<Option<M>, PatternError>,
-) -> anyhow::Result<()> {
+    let ticket = match engine.prepare(text) {
+        Ok(ticket) => ticket,
+        Err(fault) => return Ok(format!(in heap; "err {}", Fault(fault))?),
+    };
+    let groups = engine.count(ticket.number()).unwrap_or(0);
+    let found = engine.matched(ticket.number(), name);
+    let _ = engine.give_back(ticket);
     match found {
-        Ok(Some(spans)) => {
-            write!(out, "yes {groups} ")?;
-            push_spans(out, &spans, groups)
-        }
-        Ok(None) => {
-            write!(out, "no {groups}")?;
-            Ok(())
-        }
-        Err(fault) => push_refused(out, fault),
+        Ok(spans) => said(heap, Found { groups, spans }),
+        Err(fault) => Ok(format!(in heap; "err {}", Fault(fault))?),
     }
-}
-
-// The spans by number, parted by commas, `~` for an absent one.
-fn push_spans<M: Spans>(out: &mut String, spans: &M, groups: usize) -> anyhow::Result<()> {
-    for k in 0..groups {
-        if k > 0 {
-            out.push(',')?;
-        }
-        match spans.at(k) {
-            Some(span) => {
-                let from = span.from;
-                let to = span.to;
-                write!(out, "{from}-{to}")?;
-            }
-            None => out.push('~')?,
-        }
-    }
-    Ok(())
 }

@@ -1,123 +1,116 @@
-use crate::hex::push_hex;
+use crate::hex::Hex;
 use codes::{CodeError, EncodeError};
 use displays::ConversionError;
+use engine::PatternError;
 use formatter::FallbackParseError;
 use refusal::{DeepError, EitherError, FormatterError, MatcherError, ParseError, Refusal};
-use std::fmt::Write;
+use std::fmt;
+use terms::PrintError;
 
-// The mark that a fault names, in hexadecimal, or `-`.
-fn push_mark(out: &mut String, kind: FormatterError) -> anyhow::Result<()> {
+// A refusal in the words of the protocol.
+#[derive(Clone, Copy)]
+pub struct Fault<E>(pub E);
+
+// `NUMBER PLACE LENGTH`.
+fn write_part<W: fmt::Write, K: Refusal>(
+    f: &mut fmt::Formatter<W>,
+    fault: &ParseError<K>,
+) -> fmt::Result {
+    let ParseError { place, length, .. } = *fault;
+    write!(f, "{} {place} {length}", fault.number())
+}
+
+// The mark that a fault names, or none.
+fn mark(kind: FormatterError) -> &'static str {
     match kind {
-        FormatterError::MissingControl(mark) => push_hex(out, mark.text().as_bytes()),
-        FormatterError::TooManyControl(mark) => push_hex(out, mark.text().as_bytes()),
-        _ => push_hex(out, b""),
+        FormatterError::MissingControl(mark) => mark.text(),
+        FormatterError::TooManyControl(mark) => mark.text(),
+        _ => "",
     }
 }
 
-pub fn push_formatter(out: &mut String, fault: ParseError<FormatterError>) -> anyhow::Result<()> {
-    let number = fault.kind.number();
-    let place = fault.place;
-    let length = fault.length;
-    write!(out, "{number} {place} {length} ")?;
-    push_mark(out, fault.kind)
+impl fmt::Display for Fault<ParseError<FormatterError>> {
+    fn fmt<W: fmt::Write>(&self, f: &mut fmt::Formatter<W>) -> fmt::Result {
+        write_part(f, &self.0)?;
+        write!(f, " {}", Hex(mark(self.0.kind).as_bytes()))
+    }
 }
 
-pub fn push_matcher(out: &mut String, fault: ParseError<MatcherError>) -> anyhow::Result<()> {
-    let number = fault.kind.number();
-    let place = fault.place;
-    let length = fault.length;
-    write!(out, "{number} {place} {length}")?;
-    Ok(())
+impl fmt::Display for Fault<ParseError<MatcherError>> {
+    fn fmt<W: fmt::Write>(&self, f: &mut fmt::Formatter<W>) -> fmt::Result {
+        write_part(f, &self.0)
+    }
 }
 
-pub fn push_deep(out: &mut String, fault: ParseError<DeepError>) -> anyhow::Result<()> {
-    match fault.kind {
-        DeepError::Formatter(kind) => {
-            out.push_str("err ")?;
-            push_formatter(
-                out,
-                ParseError {
-                    place: fault.place,
-                    length: fault.length,
-                    kind,
-                },
-            )
-        }
-        DeepError::Separator(inner) => {
-            let piece = inner.piece;
-            let side = inner.side.name();
-            write!(out, "err separator {piece} {side} ")?;
-            push_formatter(out, inner.fault)
+impl fmt::Display for Fault<ParseError<PrintError>> {
+    fn fmt<W: fmt::Write>(&self, f: &mut fmt::Formatter<W>) -> fmt::Result {
+        write_part(f, &self.0)
+    }
+}
+
+impl fmt::Display for Fault<ParseError<DeepError>> {
+    fn fmt<W: fmt::Write>(&self, f: &mut fmt::Formatter<W>) -> fmt::Result {
+        match self.0.kind {
+            DeepError::Formatter(kind) => Fault(self.0.with(kind)).fmt(f),
+            DeepError::Separator(inner) => {
+                let piece = inner.piece;
+                let side = inner.side;
+                write!(f, "separator {piece} {side} {}", Fault(inner.fault))
+            }
         }
     }
 }
 
-pub fn push_either(out: &mut String, fault: ParseError<EitherError>) -> anyhow::Result<()> {
-    match fault.kind {
-        EitherError::Formatter(kind) => {
-            out.push_str("err formatter ")?;
-            push_formatter(
-                out,
-                ParseError {
-                    place: fault.place,
-                    length: fault.length,
-                    kind,
-                },
-            )
-        }
-        EitherError::Matcher(kind) => {
-            out.push_str("err matcher ")?;
-            push_matcher(
-                out,
-                ParseError {
-                    place: fault.place,
-                    length: fault.length,
-                    kind,
-                },
-            )?;
-            out.push_str(" -")?;
-            Ok(())
-        }
-        EitherError::InvalidCapture => {
-            let length = fault.length;
-            write!(out, "err joint 11 0 {length} -")?;
-            Ok(())
+impl fmt::Display for Fault<ParseError<EitherError>> {
+    fn fmt<W: fmt::Write>(&self, f: &mut fmt::Formatter<W>) -> fmt::Result {
+        match self.0.kind {
+            EitherError::Formatter(kind) => write!(f, "formatter {}", Fault(self.0.with(kind))),
+            EitherError::Matcher(kind) => write!(f, "matcher {} -", Fault(self.0.with(kind))),
+            EitherError::InvalidCapture => {
+                f.write_str("joint ")?;
+                write_part(f, &self.0)?;
+                f.write_str(" -")
+            }
         }
     }
 }
 
-pub fn push_fallback(out: &mut String, fault: FallbackParseError) -> anyhow::Result<()> {
-    match fault {
-        FallbackParseError::MaxCaptureTooLarge(n) => {
-            write!(out, "err 15 {n}")?;
-            Ok(())
+impl fmt::Display for Fault<FallbackParseError> {
+    fn fmt<W: fmt::Write>(&self, f: &mut fmt::Formatter<W>) -> fmt::Result {
+        match self.0 {
+            FallbackParseError::MaxCaptureTooLarge(n) => write!(f, "{} {n}", self.0.number()),
+            FallbackParseError::FormatterParseError(e) => Fault(e).fmt(f),
         }
-        FallbackParseError::FormatterParseError(e) => push_deep(out, e),
     }
 }
 
-pub fn push_code(out: &mut String, fault: CodeError) -> anyhow::Result<()> {
-    let number = fault.number();
-    write!(out, "err {number} 0 0 -")?;
-    Ok(())
-}
-
-pub fn push_encode(out: &mut String, fault: EncodeError) -> anyhow::Result<()> {
-    match fault {
-        EncodeError::Formatter(e) => push_deep(out, e),
-        EncodeError::Code(e) => push_code(out, e),
+impl fmt::Display for Fault<CodeError> {
+    fn fmt<W: fmt::Write>(&self, f: &mut fmt::Formatter<W>) -> fmt::Result {
+        write!(f, "{} 0 0 -", self.0.number())
     }
 }
 
-pub fn push_conversion(out: &mut String, fault: ConversionError) -> anyhow::Result<()> {
-    match fault {
-        ConversionError::Definition(e) => push_either(out, e),
-        ConversionError::FormatterParseError(e) => push_deep(out, e),
-        other => {
-            let layer = other.layer().name();
-            let number = other.number();
-            write!(out, "err {layer} {number}")?;
-            Ok(())
+impl fmt::Display for Fault<EncodeError> {
+    fn fmt<W: fmt::Write>(&self, f: &mut fmt::Formatter<W>) -> fmt::Result {
+        match self.0 {
+            EncodeError::Formatter(e) => Fault(e).fmt(f),
+            EncodeError::Code(e) => Fault(e).fmt(f),
+        }
+    }
+}
+
+impl fmt::Display for Fault<PatternError> {
+    fn fmt<W: fmt::Write>(&self, f: &mut fmt::Formatter<W>) -> fmt::Result {
+        write!(f, "{}", self.0.number())
+    }
+}
+
+impl fmt::Display for Fault<ConversionError> {
+    fn fmt<W: fmt::Write>(&self, f: &mut fmt::Formatter<W>) -> fmt::Result {
+        match self.0 {
+            ConversionError::Definition(e) => Fault(e).fmt(f),
+            ConversionError::FormatterParseError(e) => Fault(e).fmt(f),
+            other => write!(f, "{} {}", other.layer(), other.number()),
         }
     }
 }

@@ -1,31 +1,35 @@
+ghost use Rattle.std.specs.Iterator.{IsFinite};
+
 use std::alloc::Global;
+use std::fmt;
 
-// Appends the bytes in hexadecimal, `-` for none.
-pub fn push_hex(out: &mut String, bytes: &[u8]) -> anyhow::Result<()> {
-    if bytes.is_empty() {
-        out.push('-')?;
+// Bytes in hexadecimal, `-` for none.
+#[derive(Clone, Copy)]
+pub struct Hex<'a>(pub &'a [u8]);
+
+impl fmt::Display for Hex<'_> {
+    fn fmt<W: fmt::Write>(&self, f: &mut fmt::Formatter<W>) -> fmt::Result {
+        write_hex(f, self.0.iter().copied())
     }
+}
+
+// Writes bytes that come one by one in hexadecimal, `-` for none.
+pub fn write_hex<W: fmt::Write, I: Iterator<Item = u8> + Drop>(
+    f: &mut fmt::Formatter<W>,
+    bytes: I,
+) -> fmt::Result
+    requires can { I.can_next bytes }
+    requires ends { IsFinite (I.remaining bytes) }
+{
+    let mut none = true;
     for b in bytes {
-        push_byte(out, *b)?;
+        write!(f, "{b:02x}")?;
+        none = false;
     }
-    Ok(())
+    if none { f.write_str("-") } else { Ok(()) }
 }
 
-// Appends a byte in hexadecimal.
-pub fn push_byte(out: &mut String, b: u8) -> anyhow::Result<()> {
-    out.push(digit(b / 16))?;
-    out.push(digit(b % 16))?;
-    Ok(())
-}
-
-fn digit(n: u8) -> char {
-    match n {
-        0..=9 => (b'0' + n) as char,
-        10..=15 => (b'a' - 10 + n) as char,
-        _ => '?',
-    }
-}
-
+// The digits are those that are written: the library's `to_digit` takes capitals too, which are no words here.
 fn value(c: u8) -> Option<u8> {
     match c {
         b'0'..=b'9' => Some(c - b'0'),
@@ -40,11 +44,7 @@ pub fn unhex(heap: Global, word: &str) -> anyhow::Result<Option<Vec<u8>>> {
     if word == "-" {
         return Ok(Some(bytes));
     }
-    let text = word.as_bytes();
-    if text.len() % 2 != 0 {
-        return Ok(None);
-    }
-    for pair in text.chunks(2) {
+    for pair in word.as_bytes().chunks(2) {
         let Some(b) = byte(pair) else {
             return Ok(None);
         };
@@ -54,11 +54,8 @@ pub fn unhex(heap: Global, word: &str) -> anyhow::Result<Option<Vec<u8>>> {
 }
 
 fn byte(pair: &[u8]) -> Option<u8> {
-    let [a, b] = pair else {
+    let [high, low] = pair else {
         return None;
     };
-    match (value(*a), value(*b)) {
-        (Some(x), Some(y)) if x < 16 && y < 16 => Some(x * 16 + y),
-        _ => None,
-    }
+    value(*high)?.checked_mul(16)?.checked_add(value(*low)?)
 }

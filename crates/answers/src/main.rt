@@ -6,6 +6,7 @@ mod dump;
 mod engines;
 mod faults;
 mod hex;
+mod parted;
 mod sources;
 
 use std::io::{BufRead, BufReader};
@@ -14,7 +15,7 @@ fn main(rt: HostRuntime) -> anyhow::Result<()> {
     let heap = rt.alloc();
     for line in BufReader::new(heap, rt.stdin())?.lines(heap) {
         let line = line?;
-        let answer = calls::answer(heap, line.as_str())?;
+        let answer = calls::answer_to(heap, line.as_str())?;
         println!(rt; "{answer}")?;
     }
     Ok(())

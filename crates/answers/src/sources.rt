@@ -1,17 +1,16 @@
-use crate::hex::{push_byte, unhex};
-use refusal::{ParseError, Refusal};
-use std::alloc::{AllocError, Global};
-use std::fmt::Write;
-use tables::{Row, Table, check_table};
-use tapes::{Node, Tape, check_tape};
+use crate::calls::Verdict;
+use crate::faults::Fault;
+use crate::hex::{unhex, write_hex};
+use crate::parted::write_parted;
+use refusal::ParseError;
+use std::alloc::Global;
+use std::fmt;
+use tables::{Table, check_table};
+use tapes::{Tape, check_tape};
 use terms::{PrintError, TermSource};
+use typed::Typed;
 
-// A term as typed: its name, and the numbers behind it.
-#[derive(Drop)]
-struct Typed {
-    name: Vec<u8>,
-    numbers: Vec<usize>,
-}
+// What is read here is allocated, so the allocator goes with the word.
 
 // The numbers of a term, parted by dots, `~` for none.
 fn numbers(heap: Global, word: &str) -> anyhow::Result<Option<Vec<usize>>> {
@@ -29,7 +28,7 @@ fn numbers(heap: Global, word: &str) -> anyhow::Result<Option<Vec<usize>>> {
 }
 
 // `NAME:NUMBERS`.
-fn term(heap: Global, word: &str) -> anyhow::Result<Option<Typed>> {
+fn typed_term(heap: Global, word: &str) -> anyhow::Result<Option<Typed>> {
     let Some((name, behind)) = word.split_once(':') else {
         return Ok(None);
     };
@@ -40,13 +39,13 @@ fn term(heap: Global, word: &str) -> anyhow::Result<Option<Typed>> {
 }
 
 // Terms parted by `;`, `~` for none.
-fn terms(heap: Global, word: &str) -> anyhow::Result<Option<Vec<Typed>>> {
+fn typed_terms(heap: Global, word: &str) -> anyhow::Result<Option<Vec<Typed>>> {
     let mut all = Vec::new(heap);
     if word == "~" {
         return Ok(Some(all));
     }
     for part in word.split(';') {
-        let Some(typed) = term(heap, part)? else {
+        let Some(typed) = typed_term(heap, part)? else {
             return Ok(None);
         };
         all.push(typed)?;
@@ -54,135 +53,77 @@ fn terms(heap: Global, word: &str) -> anyhow::Result<Option<Vec<Typed>>> {
     Ok(Some(all))
 }
 
-fn row_of(term: &Typed) -> Row<'_> {
-    Row {
-        name: term.name.as_slice(),
-        children: term.numbers.as_slice(),
-    }
-}
-
-fn rows_of(heap: Global, typed: &[Typed]) -> Result<Vec<Row<'_>>, AllocError> {
-    let mut rows = Vec::new(heap);
-    for i in 0..typed.len() {
-        rows.push(row_of(&typed[i]))?;
-    }
-    Ok(rows)
-}
-
-fn push_table<'a>(out: &mut String, rows: &'a [Row<'a>]) -> anyhow::Result<()> {
-    push_check(out, check_table(rows))?;
-    push_source(out, &Table::open(rows))
+// The check of terms, and the source that they open as.
+fn checked<S: TermSource>(
+    heap: Global,
+    check: Result<(), ParseError<PrintError>>,
+    source: &S,
+) -> anyhow::Result<Option<String>> {
+    let verdict = Verdict(check.map_err(Fault));
+    let terms = Terms(source);
+    Ok(Some(format!(in heap; "{verdict} {terms}")?))
 }
 
 // The terms of a table: its check, and the source that it opens as.
 pub fn table(heap: Global, word: &str) -> anyhow::Result<Option<String>> {
-    let Some(typed) = terms(heap, word)? else {
+    let Some(typed) = typed_terms(heap, word)? else {
         return Ok(None);
     };
-    let rows = rows_of(heap, typed.as_slice())?;
-    let mut out = String::new(heap);
-    push_table(&mut out, rows.as_slice())?;
-    Ok(Some(out))
-}
-
-fn node_of(term: &Typed) -> Node<'_> {
-    Node {
-        name: term.name.as_slice(),
-        children: term.numbers.as_slice().first().copied().unwrap_or(0),
-    }
-}
-
-fn nodes_of(heap: Global, typed: &[Typed]) -> Result<Vec<Node<'_>>, AllocError> {
-    let mut nodes = Vec::new(heap);
-    for i in 0..typed.len() {
-        nodes.push(node_of(&typed[i]))?;
-    }
-    Ok(nodes)
-}
-
-fn push_tape<'a>(heap: Global, out: &mut String, nodes: &'a [Node<'a>]) -> anyhow::Result<()> {
-    push_check(out, check_tape(nodes))?;
-    let tape = Tape::open(heap, nodes)?;
-    push_source(out, &tape)
-}
-
-// Whether each term has one number.
-fn all_counted(typed: &[Typed]) -> bool {
-    for term in typed {
-        if term.numbers.len() != 1 {
-            return false;
-        }
-    }
-    true
+    let rows = typed::rows(heap, typed.as_slice())?;
+    checked(
+        heap,
+        check_table(rows.as_slice()),
+        &Table::open(rows.as_slice()),
+    )
 }
 
 // The terms of a tape, each with its child count: the same.
 pub fn tape(heap: Global, word: &str) -> anyhow::Result<Option<String>> {
-    let Some(typed) = terms(heap, word)? else {
+    let Some(typed) = typed_terms(heap, word)? else {
         return Ok(None);
     };
-    if !all_counted(typed.as_slice()) {
+    if !typed.iter().all(|term| term.numbers.len() == 1) {
         return Ok(None);
     }
-    let nodes = nodes_of(heap, typed.as_slice())?;
-    let mut out = String::new(heap);
-    push_tape(heap, &mut out, nodes.as_slice())?;
-    Ok(Some(out))
+    let nodes = typed::nodes(heap, typed.as_slice())?;
+    let tape = Tape::open(heap, nodes.as_slice())?;
+    checked(heap, check_tape(nodes.as_slice()), &tape)
 }
 
-fn push_check(out: &mut String, check: Result<(), ParseError<PrintError>>) -> anyhow::Result<()> {
-    match check {
-        Ok(()) => out.push_str("ok")?,
-        Err(fault) => {
-            let number = fault.kind.number();
-            let place = fault.place;
-            let length = fault.length;
-            write!(out, "err {number} {place} {length}")?;
-        }
+// `COUNT TERMS`, the terms as a table has them.
+#[derive(Clone, Copy)]
+struct Terms<'s, S>(&'s S);
+
+impl<S: TermSource> fmt::Display for Terms<'_, S> {
+    fn fmt<W: fmt::Write>(&self, f: &mut fmt::Formatter<W>) -> fmt::Result {
+        let source = self.0;
+        let count = source.count();
+        write!(f, "{count} ")?;
+        write_parted(f, ';', (0..count).map(|number| Term { source, number }))
     }
-    Ok(())
 }
 
-// ` COUNT TERMS`, the terms as a table has them.
-fn push_source<S: TermSource>(out: &mut String, source: &S) -> anyhow::Result<()> {
-    let count = source.count();
-    write!(out, " {count} ")?;
-    if count == 0 {
-        out.push('~')?;
-    }
-    for t in 0..count {
-        if t > 0 {
-            out.push(';')?;
-        }
-        push_name(out, source, t)?;
-        out.push(':')?;
-        push_children(out, source, t)?;
-    }
-    Ok(())
+// `NAME:NUMBERS`.
+#[derive(Clone, Copy)]
+struct Term<'s, S> {
+    source: &'s S,
+    number: usize,
 }
 
-fn push_name<S: TermSource>(out: &mut String, source: &S, t: usize) -> anyhow::Result<()> {
-    let length = source.name_len(t).unwrap_or(0);
-    if length == 0 {
-        out.push('-')?;
+impl<S: TermSource> fmt::Display for Term<'_, S> {
+    fn fmt<W: fmt::Write>(&self, f: &mut fmt::Formatter<W>) -> fmt::Result {
+        let Term { source, number } = *self;
+        let size = source.name_len(number).unwrap_or(0);
+        let children = source.child_count(number).unwrap_or(0);
+        write_hex(
+            f,
+            (0..size).map(|i| source.name_byte(number, i).unwrap_or(0)),
+        )?;
+        f.write_char(':')?;
+        write_parted(
+            f,
+            '.',
+            (0..children).map(|i| source.child(number, i).unwrap_or(0)),
+        )
     }
-    for i in 0..length {
-        push_byte(out, source.name_byte(t, i).unwrap_or(0))?;
-    }
-    Ok(())
-}
-
-fn push_children<S: TermSource>(out: &mut String, source: &S, t: usize) -> anyhow::Result<()> {
-    let count = source.child_count(t).unwrap_or(0);
-    if count == 0 {
-        out.push('~')?;
-    }
-    for i in 0..count {
-        if i > 0 {
-            out.push('.')?;
-        }
-        let child = source.child(t, i).unwrap_or(0);
-        write!(out, "{child}")?;
-    }
-    Ok(())
 }

@@ -24,7 +24,7 @@ fn run(rt: &HostRuntime) -> anyhow::Result<()> {
             all
         }
     };
-    let text = check_page(heap, bytes.as_slice())?;
-    print!(rt; "{text}")?;
+    let report = check_page(heap, bytes.as_slice())?;
+    print!(rt; "{report}")?;
     Ok(())
 }

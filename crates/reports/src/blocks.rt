@@ -1,25 +1,24 @@
-use crate::trees::{push_bad_term, push_trees};
+use crate::report::Report;
 use refusal::ParseError;
-use std::alloc::{AllocError, Global};
+use std::alloc::Global;
 use std::fmt::Write;
 use std::str;
 use tables::{Row, Table, check_table};
 use tapes::{Node, Tape, check_tape};
-use terms::PrintError;
+use terms::{PrintError, TermSource};
 
-// A line of terms: its number on the page, the line as typed, the term's name and the numbers behind it.
+// A line of terms: its number on the page, the line as typed, and the term.
 #[derive(Drop)]
 pub struct Typed {
     line: usize,
     text: Vec<u8>,
-    name: Vec<u8>,
-    numbers: Vec<usize>,
+    term: typed::Typed,
 }
 
 impl Typed {
     // How many numbers stand behind the name.
     pub fn count(&self) -> usize {
-        self.numbers.len()
+        self.term.numbers.len()
     }
 }
 
@@ -44,101 +43,54 @@ pub fn typed_term(
         };
         numbers.push(number)?;
     }
+    let name = name.as_bytes().to_vec(heap)?;
     Ok(Some(Typed {
         line,
         text: text.to_vec(heap)?,
-        name: name.as_bytes().to_vec(heap)?,
-        numbers,
+        term: typed::Typed { name, numbers },
     }))
 }
 
-// The first bad term, if there is one, with its line marked; whether there is none.
-fn push_check(
-    out: &mut String,
-    terms: &[Typed],
-    check: Result<(), ParseError<PrintError>>,
-) -> anyhow::Result<bool> {
-    let Err(fault) = check else {
-        return Ok(true);
-    };
-    let place = fault.place;
-    if place < terms.len() {
-        push_bad_term(out, terms[place].line, terms[place].text.as_slice(), fault)?;
+impl Report {
+    // Reports a table that starts at a line; whether no term of it is bad.
+    pub fn table(&mut self, start: usize, terms: &[Typed]) -> anyhow::Result<bool> {
+        let size = terms.len();
+        writeln!(self.text, "line {start}: a table, lines {size}")?;
+        let rows: Vec<Row<'_>> = terms
+            .iter()
+            .map(|line| line.term.row())
+            .collect(self.heap())?;
+        let table = Table::open(rows.as_slice());
+        self.push_opened(terms, check_table(rows.as_slice()), &table)
     }
-    writeln!(out, "  opened before it: {place}")?;
-    Ok(false)
-}
 
-fn row_of(term: &Typed) -> Row<'_> {
-    Row {
-        name: term.name.as_slice(),
-        children: term.numbers.as_slice(),
+    // Reports a tape that starts at a line; whether no term of it is bad.
+    pub fn tape(&mut self, start: usize, terms: &[Typed]) -> anyhow::Result<bool> {
+        let size = terms.len();
+        writeln!(self.text, "line {start}: a tape, lines {size}")?;
+        let nodes: Vec<Node<'_>> = terms
+            .iter()
+            .map(|line| line.term.node())
+            .collect(self.heap())?;
+        let tape = Tape::open(self.heap(), nodes.as_slice())?;
+        self.push_opened(terms, check_tape(nodes.as_slice()), &tape)
     }
-}
 
-fn rows_of(heap: Global, terms: &[Typed]) -> Result<Vec<Row<'_>>, AllocError> {
-    let mut rows = Vec::new(heap);
-    for i in 0..terms.len() {
-        rows.push(row_of(&terms[i]))?;
+    // The first bad term, if there is one, with its line marked, and the source that the terms open as; whether none is bad.
+    fn push_opened<S: TermSource>(
+        &mut self,
+        terms: &[Typed],
+        check: Result<(), ParseError<PrintError>>,
+        source: &S,
+    ) -> anyhow::Result<bool> {
+        if let Err(fault) = check {
+            let place = fault.place;
+            if let Some(bad) = terms.get(place) {
+                self.push_bad_term(bad.line, bad.text.as_slice(), fault)?;
+            }
+            writeln!(self.text, "  opened before it: {place}")?;
+        }
+        self.push_trees(source)?;
+        Ok(check.is_ok())
     }
-    Ok(rows)
-}
-
-fn push_table<'a>(
-    heap: Global,
-    out: &mut String,
-    terms: &[Typed],
-    rows: &'a [Row<'a>],
-) -> anyhow::Result<bool> {
-    let lawful = push_check(out, terms, check_table(rows))?;
-    push_trees(heap, out, &Table::open(rows))?;
-    Ok(lawful)
-}
-
-// Reports a table that starts at a line; whether no term of it is bad.
-pub fn table(
-    heap: Global,
-    out: &mut String,
-    start: usize,
-    terms: &[Typed],
-) -> anyhow::Result<bool> {
-    let size = terms.len();
-    writeln!(out, "line {start}: a table, lines {size}")?;
-    let rows = rows_of(heap, terms)?;
-    push_table(heap, out, terms, rows.as_slice())
-}
-
-fn node_of(term: &Typed) -> Node<'_> {
-    Node {
-        name: term.name.as_slice(),
-        children: term.numbers.as_slice().first().copied().unwrap_or(0),
-    }
-}
-
-fn nodes_of(heap: Global, terms: &[Typed]) -> Result<Vec<Node<'_>>, AllocError> {
-    let mut nodes = Vec::new(heap);
-    for i in 0..terms.len() {
-        nodes.push(node_of(&terms[i]))?;
-    }
-    Ok(nodes)
-}
-
-fn push_tape<'a>(
-    heap: Global,
-    out: &mut String,
-    terms: &[Typed],
-    nodes: &'a [Node<'a>],
-) -> anyhow::Result<bool> {
-    let lawful = push_check(out, terms, check_tape(nodes))?;
-    let tape = Tape::open(heap, nodes)?;
-    push_trees(heap, out, &tape)?;
-    Ok(lawful)
-}
-
-// Reports a tape that starts at a line; whether no term of it is bad.
-pub fn tape(heap: Global, out: &mut String, start: usize, terms: &[Typed]) -> anyhow::Result<bool> {
-    let size = terms.len();
-    writeln!(out, "line {start}: a tape, lines {size}")?;
-    let nodes = nodes_of(heap, terms)?;
-    push_tape(heap, out, terms, nodes.as_slice())
 }

@@ -3,9 +3,11 @@
 
 mod blocks;
 mod definitions;
+mod faults;
+mod readings;
+mod report;
 mod show;
 mod trees;
 
-pub use blocks::{Typed, table, tape, typed_term};
-pub use definitions::{define, define_with_engine, fallback, heading};
-pub use trees::{push_bad_term, push_trees};
+pub use blocks::{Typed, typed_term};
+pub use report::Report;

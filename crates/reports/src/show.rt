@@ -1,88 +1,103 @@
-use std::fmt::Write;
-use std::str;
+use std::{fmt, str};
 
-// How a text is shown: as it is where it is plain UTF-8 without control characters, else with other bytes as `\xNN`.
+// How a text is shown.
 #[derive(Clone, Copy)]
-pub struct Shown<'a> {
-    bytes: &'a [u8],
-    plain: bool,
+pub enum Shown<'a> {
+    // as it is: UTF-8 without control characters
+    Plain(&'a str),
+    // bytes that are no printable ASCII as `\xNN`
+    Escaped(&'a [u8]),
 }
 
-fn is_plain(bytes: &[u8]) -> bool {
-    for b in bytes {
-        if *b < 32 || *b == 127 {
-            return false;
-        }
-    }
-    str::from_utf8(bytes).is_ok()
+fn is_control(b: u8) -> bool {
+    b < 32 || b == 127
+}
+
+fn is_printable(b: u8) -> bool {
+    b >= 32 && b < 127
 }
 
 // Further bytes of a character take no column of their own.
-fn columns(b: u8, plain: bool) -> usize {
-    if plain {
-        return usize::from(b & 0xc0 != 0x80);
-    }
-    if b >= 32 && b < 127 { 1 } else { 4 }
+fn begins_character(b: u8) -> bool {
+    b & 0xc0 != 0x80
 }
 
-impl Shown<'_> {
-    pub fn new(bytes: &[u8]) -> Shown<'_> {
-        Shown {
-            bytes,
-            plain: is_plain(bytes),
+impl<'a> Shown<'a> {
+    pub fn new(bytes: &'a [u8]) -> Shown<'a> {
+        if bytes.iter().any(|b| is_control(*b)) {
+            return Shown::Escaped(bytes);
         }
-    }
-
-    // Appends the text.
-    pub fn push(&self, out: &mut String) -> anyhow::Result<()> {
-        if self.plain
-            && let Ok(text) = str::from_utf8(self.bytes)
-        {
-            out.push_str(text)?;
-            return Ok(());
+        match str::from_utf8(bytes) {
+            Ok(text) => Shown::Plain(text),
+            Err(_) => Shown::Escaped(bytes),
         }
-        for b in self.bytes {
-            push_byte(out, *b)?;
-        }
-        Ok(())
     }
 
     // How many columns the first `n` bytes take.
     fn width(&self, n: usize) -> usize {
-        let mut all = 0usize;
-        for b in self.bytes.iter().take(n) {
-            all = all.saturating_add(columns(*b, self.plain));
+        match self {
+            Shown::Plain(text) => text
+                .as_bytes()
+                .iter()
+                .take(n)
+                .filter(|b| begins_character(**b))
+                .count(),
+            Shown::Escaped(bytes) => bytes.iter().take(n).fold(
+                0usize,
+                |all, b| all.saturating_add(if is_printable(*b) { 1 } else { 4 }),
+            ),
         }
-        all
     }
+}
 
-    // Appends a line with carets under the part; one caret where the part is empty.
-    pub fn push_carets(&self, out: &mut String, place: usize, length: usize) -> anyhow::Result<()> {
-        let from = self.width(place);
-        let to = self.width(place.saturating_add(length));
+impl fmt::Display for Shown<'_> {
+    fn fmt<W: fmt::Write>(&self, f: &mut fmt::Formatter<W>) -> fmt::Result {
+        match self {
+            Shown::Plain(text) => f.write_str(text),
+            Shown::Escaped(bytes) => {
+                for b in *bytes {
+                    if is_printable(*b) {
+                        f.write_char(*b as char)?;
+                    } else {
+                        write!(f, "\\x{b:02x}")?;
+                    }
+                }
+                Ok(())
+            }
+        }
+    }
+}
+
+// A text between quotes.
+#[derive(Clone, Copy)]
+pub struct Quoted<'a>(pub &'a [u8]);
+
+impl fmt::Display for Quoted<'_> {
+    fn fmt<W: fmt::Write>(&self, f: &mut fmt::Formatter<W>) -> fmt::Result {
+        write!(f, "'{}'", Shown::new(self.0))
+    }
+}
+
+// A text, and on the next line carets under a part of it, one where the part is empty.
+#[derive(Clone, Copy)]
+pub struct Underlined<'a> {
+    pub text: &'a [u8],
+    pub place: usize,
+    pub length: usize,
+}
+
+impl fmt::Display for Underlined<'_> {
+    fn fmt<W: fmt::Write>(&self, f: &mut fmt::Formatter<W>) -> fmt::Result {
+        let shown = Shown::new(self.text);
+        let from = shown.width(self.place);
+        let to = shown.width(self.place.saturating_add(self.length));
+        write!(f, "    {shown}\n    ")?;
         for _ in 0..from {
-            out.push(' ')?;
+            f.write_char(' ')?;
         }
         for _ in 0..to.saturating_sub(from).max(1) {
-            out.push('^')?;
+            f.write_char('^')?;
         }
-        Ok(())
+        f.write_char('\n')
     }
-}
-
-fn push_byte(out: &mut String, b: u8) -> anyhow::Result<()> {
-    if b >= 32 && b < 127 {
-        out.push(b as char)?;
-    } else {
-        write!(out, "\\x{b:02x}")?;
-    }
-    Ok(())
-}
-
-// The text between quotes.
-pub fn push_quoted(out: &mut String, bytes: &[u8]) -> anyhow::Result<()> {
-    out.push('\'')?;
-    Shown::new(bytes).push(out)?;
-    out.push('\'')?;
-    Ok(())
 }
