@@ -24,7 +24,7 @@ impl<T: fmt::Display, E: fmt::Display> fmt::Display for Answer<T, E> {
     }
 }
 
-// `ok` alone, or `err` and why not.
+// `ok` alone, or `err` and why not: with nothing to show behind it no blank stands there.
 #[derive(Clone, Copy)]
 pub struct Verdict<E>(pub Result<(), E>);
 
@@ -89,7 +89,10 @@ fn call(heap: Global, command: &str, a: &[u8], b: &[u8]) -> anyhow::Result<Optio
         "code" => code(heap, a)?,
         "decode" => decode(heap, a)?,
         "display" => said(heap, Verdict(engines::display(a, b).map_err(Fault)))?,
-        "match" => engines::matching(heap, a, b)?,
+        "match" => match engines::matching(a, b) {
+            Ok(found) => said(heap, found)?,
+            Err(fault) => said(heap, Verdict(Err(Fault(fault))))?,
+        },
         _ => return Ok(None),
     }))
 }
@@ -120,19 +123,24 @@ fn fallback(heap: Global, text: &[u8]) -> anyhow::Result<String> {
     )
 }
 
-// What was written into the front of a buffer.
-fn front(buffer: &[u8], size: usize) -> Hex<'_> {
-    Hex(buffer.get(..size).unwrap_or(&[]))
+// What was written into the front of a buffer, or why nothing was.
+fn written<E>(heap: Global, buffer: &[u8], size: Result<usize, E>) -> anyhow::Result<String>
+where
+    Fault<E>: fmt::Display,
+    E: Drop,
+{
+    let front = size.map(|n| Hex(buffer.get(..n).unwrap_or(&[])));
+    said(heap, Answer(front.map_err(Fault)))
 }
 
 fn code(heap: Global, template: &[u8]) -> anyhow::Result<String> {
     let mut buffer = [0; CODE_LIMIT];
     let size = encode(template, &mut buffer);
-    said(heap, Answer(size.map(|n| front(&buffer, n)).map_err(Fault)))
+    written(heap, &buffer, size)
 }
 
 fn decode(heap: Global, bytes: &[u8]) -> anyhow::Result<String> {
     let mut buffer = [0; TEMPLATE_LIMIT];
     let size = write_back(bytes, &mut buffer);
-    said(heap, Answer(size.map(|n| front(&buffer, n)).map_err(Fault)))
+    written(heap, &buffer, size)
 }

@@ -73,7 +73,8 @@ impl fmt::Display for Plain<'_> {
     }
 }
 
-// A separator, its bars halved and read as a template. The room is that of the longest template.
+// A separator, its bars halved and read as a template, which borrows the room: of the two lines that do it no function is made, as it would take the
+// room and hand it back. The room is that of the longest template.
 #[derive(Clone, Copy)]
 struct Separator<'a>(&'a [u8]);
 
@@ -115,7 +116,8 @@ impl fmt::Display for Range<'_> {
     }
 }
 
-// A piece as it was typed: texts and separators with their marks doubled.
+// A piece as it was typed: texts and separators with their marks doubled. `Read` below takes a repeat apart alike: of a function that
+// answers its range and its separators no proof was made.
 #[derive(Clone, Copy)]
 struct Typed<'a>(SubFormatterConst<'a>);
 

@@ -1,10 +1,7 @@
-use crate::calls::said;
-use crate::faults::Fault;
 use crate::parted::write_parted;
 use displays::{ConversionError, check_definition};
-use engine::{PatternEngine, Span, Spans};
-use plain::PlainEngine;
-use std::alloc::Global;
+use engine::{PatternEngine, PatternError, Span, Spans};
+use plain::{PlainEngine, PlainMatch};
 use std::fmt;
 
 // A definition, checked with a plain engine that holds nothing. What is prepared is given back.
@@ -31,7 +28,7 @@ impl fmt::Display for Part {
 
 // The match of a pattern with so many groups, if there is one.
 #[derive(Drop)]
-struct Found<M> {
+pub struct Found<M> {
     groups: usize,
     spans: Option<M>,
 }
@@ -50,17 +47,14 @@ impl<M: Spans> fmt::Display for Found<M> {
 }
 
 // The match of a pattern with a name, in the plain engine.
-pub fn matching(heap: Global, text: &[u8], name: &[u8]) -> anyhow::Result<String> {
+pub fn matching(text: &[u8], name: &[u8]) -> Result<Found<PlainMatch>, PatternError> {
     let mut engine = PlainEngine::new();
-    let ticket = match engine.prepare(text) {
-        Ok(ticket) => ticket,
-        Err(fault) => return Ok(format!(in heap; "err {}", Fault(fault))?),
-    };
+    let ticket = engine.prepare(text)?;
     let groups = engine.count(ticket.number()).unwrap_or(0);
-    let found = engine.matched(ticket.number(), name);
+    let spans = engine.matched(ticket.number(), name);
     let _ = engine.give_back(ticket);
-    match found {
-        Ok(spans) => said(heap, Found { groups, spans }),
-        Err(fault) => Ok(format!(in heap; "err {}", Fault(fault))?),
-    }
+    Ok(Found {
+        groups,
+        spans: spans?,
+    })
 }

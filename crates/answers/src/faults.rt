@@ -20,7 +20,7 @@ fn write_part<W: fmt::Write, K: Refusal>(
     write!(f, "{} {place} {length}", fault.number())
 }
 
-// The mark that a fault names, or none.
+// The mark that a fault names, or none; here its text, for C its first byte, in a report a line about it.
 fn mark(kind: FormatterError) -> &'static str {
     match kind {
         FormatterError::MissingControl(mark) => mark.text(),

@@ -12,45 +12,46 @@ use typed::Typed;
 
 // What is read here is allocated, so the allocator goes with the word.
 
-// The numbers of a term, parted by dots, `~` for none.
-fn numbers(heap: Global, word: &str) -> anyhow::Result<Option<Vec<usize>>> {
+// What is read of each part of a word, `~` for none; none where a part reads as nothing.
+fn parts<T: Drop, F: Fn(Global, &str) -> anyhow::Result<Option<T>>>(
+    heap: Global,
+    word: &str,
+    mark: char,
+    read: F,
+) -> anyhow::Result<Option<Vec<T>>>
+    requires { F.IsAlwaysCallable read }
+{
     let mut all = Vec::new(heap);
     if word == "~" {
         return Ok(Some(all));
     }
-    for part in word.split('.') {
-        let Ok(number) = part.parse::<usize>() else {
+    for part in word.split(mark) {
+        let Some(thing) = read(heap, part)? else {
             return Ok(None);
         };
-        all.push(number)?;
+        all.push(thing)?;
     }
     Ok(Some(all))
 }
 
-// `NAME:NUMBERS`.
+fn number(_heap: Global, word: &str) -> anyhow::Result<Option<usize>> {
+    Ok(word.parse::<usize>().ok())
+}
+
+// `NAME:NUMBERS`, the numbers parted by dots.
 fn typed_term(heap: Global, word: &str) -> anyhow::Result<Option<Typed>> {
     let Some((name, behind)) = word.split_once(':') else {
         return Ok(None);
     };
-    match (unhex(heap, name)?, numbers(heap, behind)?) {
+    match (unhex(heap, name)?, parts(heap, behind, '.', number)?) {
         (Some(name), Some(numbers)) => Ok(Some(Typed { name, numbers })),
         _ => Ok(None),
     }
 }
 
-// Terms parted by `;`, `~` for none.
+// Terms parted by `;`.
 fn typed_terms(heap: Global, word: &str) -> anyhow::Result<Option<Vec<Typed>>> {
-    let mut all = Vec::new(heap);
-    if word == "~" {
-        return Ok(Some(all));
-    }
-    for part in word.split(';') {
-        let Some(typed) = typed_term(heap, part)? else {
-            return Ok(None);
-        };
-        all.push(typed)?;
-    }
-    Ok(Some(all))
+    parts(heap, word, ';', typed_term)
 }
 
 // The check of terms, and the source that they open as.

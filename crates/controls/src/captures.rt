@@ -14,6 +14,7 @@ pub(crate) fn parse_capture<'a>(
 ) -> Result<SubFormatterConst<'a>, ParseError<FormatterError>>
     ensures { seen_shape result ≡ reading capture_at part.entry }
 {
+    // a match, since no proof is made of a `map` to a piece, which names a lifetime
     match u32::try_from(parse_i32(part)?) {
         Ok(number) => Ok(SubFormatterConst::Capture(number)),
         Err(_) => Err(part.fault(FormatterError::CaptureOverflow)),

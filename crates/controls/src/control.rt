@@ -22,9 +22,9 @@ fn close<'a, F: Fn(Part<'a>) -> Result<SubFormatterConst<'a>, ParseError<Formatt
     ensures within { IfOk result (λ p. p.1 ≤ length part.entry.text.now + 1) }
     ensures same { (f : _) → Reads (F.post parse) f → seen_control result ≡ reading (closed_by byte mark f) part.entry }
 {
-    let Some((inside, _)) = part.cut(byte, b'$') else {
-        return Err(part.fault(FormatterError::MissingControl(mark)));
-    };
+    let (inside, _) = part
+        .cut(byte, b'$')
+        .ok_or(part.fault(FormatterError::MissingControl(mark)))?;
     let piece = parse(inside)?;
     Ok((piece, inside.text.len() + 3))
 }

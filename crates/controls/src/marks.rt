@@ -26,6 +26,7 @@ pub fn unpaired(text: &[u8], mark: u8) -> usize
     ensures value { result ≡ unpaired_in mark text.now }
 {
     let mut rest = text;
+    // what is left is taken apart by patterns, since a pair is passed over as one, and no iterator of the library does that
     loop {
         rest = match rest {
             [one, behind @ ..] if *one != mark => behind,

@@ -20,9 +20,9 @@ pub(crate) struct ChildRange<'a> {
 pub(crate) fn parse_range<'a>(part: Part<'a>) -> Result<ChildRange<'a>, ParseError<FormatterError>>
     ensures { seen_range result ≡ reading range_at part.entry }
 {
-    let Some((path, last)) = part.cut(b'.', b'.') else {
-        return Err(part.fault(FormatterError::MissingRange));
-    };
+    let (path, last) = part
+        .cut(b'.', b'.')
+        .ok_or(part.fault(FormatterError::MissingRange))?;
     let from = parse_path(path)?;
     let to = parse_index(last)?;
     Ok(ChildRange {

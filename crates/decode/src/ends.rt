@@ -32,7 +32,7 @@ fn inside_end<'a>(mut commands: Commands<'a>, suffixed: bool) -> Option<Commands
 }
 
 // What stands behind the separator that comes first, if one comes that is allowed. `template_end` begins
-// like this, five lines that one function for both would replace by a parameter, which neither contract has.
+// like this; as one function the two would take what reads on as a parameter, and each contract would have a clause more.
 fn separator_end<'a>(mut commands: Commands<'a>) -> Option<Commands<'a>>
     ensures fewer { IfSome result (λ c. length (bytes_of c) ≤ length (bytes_of commands.entry)) }
     ensures value { left_of result ≡ behind_separator (bytes_of commands.entry) }

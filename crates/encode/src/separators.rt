@@ -14,7 +14,8 @@ use grammar::{BindPowerPair, TEMPLATE_LIMIT};
 use pen::{Full, Pen};
 use templates::{FormatterConst, parse_template};
 
-// Room for the bytes of a separator with its bars halved.
+// Room for the bytes of a separator with its bars halved, as long as the longest template: nothing is taken from the heap.
+// Pen and room go on side by side, as one is what is written and the other is scratched on.
 pub(crate) type Scratch = [u8; TEMPLATE_LIMIT];
 
 // The powers of a template or a separator: a POWER.

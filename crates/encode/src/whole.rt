@@ -83,6 +83,7 @@ fn encode_template(template: &[u8], out: &mut [u8]) -> Result<usize, EncodeError
     ensures buffer { out.new ≡ after (encoded template.now) out.old }
 {
     let read = parse_formatter(template)?;
+    // of the longest sizes, since nothing is taken from the heap
     let mut scratch = [0; TEMPLATE_LIMIT];
     let mut code = [0; CODE_LIMIT];
     let mut pen = Pen::new(&mut code);

@@ -2,7 +2,7 @@ ghost use Rattle.std.specs.Prelude.{◌≡◌, List, Option};
 ghost use Rattle.engine.specs.declared.span.Span.{Span};
 ghost use Rattle.engine.specs.Rules.{span_at};
 
-// The most bytes that a name may have that is matched.
+// The most bytes that a name may have that is matched. Sources of terms have the same number for their names; neither crate is above the other.
 pub const LONGEST_NAME: usize = 255;
 
 // A part of a name, from one place up to another.

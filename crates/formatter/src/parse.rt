@@ -14,7 +14,8 @@ use controls::SubFormatterConst;
 use refusal::{DeepError, FormatterError, InSeparator, ParseError, Side};
 use templates::{FormatterConst, TEMPLATE_LIMIT, parse_template};
 
-// Room for a separator with its bars halved.
+// Room for a separator with its bars halved, as long as the longest template: a reader takes no memory from the heap. The
+// greatest capture so far goes through the functions below as a value, and the room beside it as what they write to.
 type Scratch = [u8; TEMPLATE_LIMIT];
 
 // Reads a separator as a template, its bars halved, and answers the greatest capture so far.

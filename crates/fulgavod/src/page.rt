@@ -30,15 +30,6 @@ struct Page {
     codes: Vec<Stored>,
 }
 
-// What stands behind a word at the beginning of a line.
-fn behind<'a>(line: &'a [u8], word: &[u8]) -> Option<&'a [u8]> {
-    if line.starts_with(word) {
-        line.get(word.len()..)
-    } else {
-        None
-    }
-}
-
 // What stands before and behind the first ` => `.
 fn parted(text: &[u8]) -> Option<(&[u8], &[u8])> {
     let at = text.windows(4).position(|four| four == b" => ".as_slice())?;
@@ -57,10 +48,10 @@ fn call_of(line: &[u8]) -> Option<Call<'_>> {
     if line.is_empty() || line.starts_with(b"#") {
         return None;
     }
-    if let Some(rest) = behind(line, b"define ") {
+    if let Some(rest) = line.strip_prefix(b"define ") {
         return Some(define(rest));
     }
-    if let Some(template) = behind(line, b"fallback ") {
+    if let Some(template) = line.strip_prefix(b"fallback ") {
         return Some(Call::Fallback { template });
     }
     Some(Call::Unknown)

@@ -93,6 +93,8 @@ pub extern "C" fn fulgavod_formatter(text: &[u8]) -> Template
     }
 }
 
+// What is written is told alike for both writers; a conversion for both would be over any refusal and say what the two matches say.
+
 // Writes the code of a template to the start of the buffer.
 #[unsafe(no_mangle)]
 pub extern "C" fn fulgavod_encode(template: &[u8], out: &mut [u8]) -> Written

@@ -22,7 +22,8 @@ impl<'a> AnswerList<'a> {
     }
 }
 
-// The text that a number holds.
+// The text that a number holds. The plain engine has the same chain, and the line below, over its own kind of text: for both in one function
+// the contract would have to speak of any kind of text and be longer than the two.
 fn text_at<'a>(slots: &[Option<&'a [u8]>], number: usize) -> Result<&'a [u8], PatternError>
     ensures { MatchResult result (λ t. (number < length slots.now) × (held_in slots.now number ≡ Some t.now)) (λ e. (held_in slots.now number ≡ None) × (e ≡ NothingHeld)) }
 {

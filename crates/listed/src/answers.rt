@@ -48,7 +48,7 @@ fn lawful(row: &AnswerRow<'_>) -> bool
         && all_lie(row.spans, row.name.len())
 }
 
-// A text and a name are asked for together here and in the trait, where they are what a caller typed: no struct is made of them.
+// Functions of the rows and what is asked of them; what an engine holds plays no part in them, so they are no methods of it.
 
 fn tells_of(row: &AnswerRow<'_>, text: &[u8]) -> bool
     ensures { result ≡ tells text.now (fact row.now) }

@@ -14,7 +14,7 @@ pub struct AnswerRow<'a> {
     pub spans: &'a [Option<Span>],
 }
 
-// The rows, and for each number the text that it holds.
+// The rows, and for each number the text that it holds: room for as many as can be held, since no call takes memory.
 #[derive(Drop)]
 pub struct AnswerList<'a> {
     pub(crate) rows: &'a [AnswerRow<'a>],

@@ -2,7 +2,7 @@ ghost use Rattle.std.specs.Prelude.{◌≡◌, ◌≤◌, List, ◌∷◌, lengt
 ghost use Rattle.moves.specs.Ends.{bracketed};
 ghost use Rattle.moves.specs.Walk.{over};
 ghost use Rattle.wire.specs.Ahead.{ahead};
-ghost use Rattle.wire.specs.Cursor.{ahead_of, bytes_of};
+ghost use Rattle.wire.specs.Cursor.{ahead_of, bytes_of, IsTailOf};
 ghost use Rattle.wire.specs.declared.commands.Command.{Command};
 
 use grammar::BindPowerPair;
@@ -12,6 +12,7 @@ use wire::{Command, Commands};
 pub fn pass_operands(commands: &mut Commands<'_>, command: Command)
     ensures commands { ahead_of commands.new ≡ over command (ahead_of commands.old) }
     ensures fewer { length (bytes_of commands.new) ≤ length (bytes_of commands.old) }
+    ensures tail { IsTailOf (bytes_of commands.new) (bytes_of commands.old) }
 {
     if command.is_range() {
         commands.pass();
@@ -33,8 +34,5 @@ pub fn bracketed(code: &[u8], around: BindPowerPair) -> bool
 fn exceeded(command: Command, around: BindPowerPair) -> bool
     ensures { (ks : List Command) → result ≡ bracketed (command ∷ ks) around.left around.right }
 {
-    match command {
-        Command::Power { left, right } => left < around.left || right < around.right,
-        _ => false,
-    }
+    matches!(command, Command::Power { left, right } if left < around.left || right < around.right)
 }

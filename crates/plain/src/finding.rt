@@ -68,6 +68,7 @@ pub(crate) fn find(items: &[Item], name: &[u8]) -> Option<[Option<(u8, u8)>; NUM
         return None;
     }
     let search = Search { items, name };
+    // of the largest size, since an engine takes no memory from the heap
     let mut table = [[None; PLACES]; ROWS];
     search.fill(&mut table);
     table[0][0]?;

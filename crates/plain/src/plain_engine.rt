@@ -22,16 +22,15 @@ impl PlainEngine {
     }
 }
 
-// The first place that is free. The answer list has the same line over its own places: one function for both would be
-// no plainer.
+// The first place that is free. The answer list has the same line over its own kind of text: for both in one function the
+// contract would have to speak of any kind of text and be longer than the two.
 fn free(slots: &[Option<Text>]) -> Option<usize>
     ensures { MatchOption result ((k : ℕ) → k < length slots.now → one (held_in slots.now k) ≡ 1) (λ i. (i < length slots.now) × (held_in slots.now i ≡ None)) }
 {
     slots.iter().position(|slot| slot.is_none())
 }
 
-// The text that a number holds. The answer list has the same chain over its own places: one function for both would be
-// no plainer.
+// The text that a number holds; as with the places, the answer list has the same chain.
 fn text_at(slots: &[Option<Text>], number: usize) -> Result<Text, PatternError>
     ensures { MatchResult result (λ t. (number < length slots.now) × (held_in slots.now number ≡ Some (chars t))) (λ e. (held_in slots.now number ≡ None) × (e ≡ NothingHeld)) }
 {

@@ -45,7 +45,8 @@ fn plain<C: Chooser, S: TermSource>(
     }
 }
 
-// Carries out the commands of a separator, for the term of the visit.
+// Carries out the commands of a separator, for the term of the visit. `pieces` goes through a template alike, with `part` for
+// `plain`; as one function both would take the other as a parameter, whose contract is that of the whole cycle of calls.
 #[cycle(enclosed_one_part_pieces_plain_range_row_separator_show)]
 fn separator<C: Chooser, S: TermSource>(
     job: &Job<'_, C, S, C::Match>,
@@ -226,6 +227,7 @@ pub(crate) fn show<C: Chooser, S: TermSource>(
 {
     pen.enter(depth)?;
     let count = child_number(source, term);
+    // of the longest name, since a print takes no memory from the heap
     let mut name = [0u8; LONGEST_NAME];
     let len = copy_name(source, term, &mut name);
     let Choice { code, found } = chooser.choose(&name[0..len], count);

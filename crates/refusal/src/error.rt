@@ -368,10 +368,6 @@ impl From<InSeparator> for ParseError<DeepError> {
     ghost from_gives = { λ e r. r ≡ carried e };
 
     fn from(e: InSeparator) -> ParseError<DeepError> {
-        ParseError {
-            place: e.fault.place,
-            length: e.fault.length,
-            kind: DeepError::Separator(e),
-        }
+        e.fault.with(DeepError::Separator(e))
     }
 }

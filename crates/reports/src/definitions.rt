@@ -60,10 +60,12 @@ impl Report {
             Err(FallbackParseError::FormatterParseError(fault)) => {
                 self.refuse_deep(template, fault)
             }
-            Err(FallbackParseError::MaxCaptureTooLarge(n)) => {
+            Err(fault @ FallbackParseError::MaxCaptureTooLarge(n)) => {
+                let number = fault.number();
+                let name = fault.name();
                 writeln!(
                     self.text,
-                    "  refused 15 MaxCaptureTooLarge: capture {n}, where only 0, the whole name, is known"
+                    "  refused {number} {name}: capture {n}, where only 0, the whole name, is known"
                 )?;
                 Ok(None)
             }
@@ -83,6 +85,7 @@ impl Report {
 
     // Reports the code by which a template is stored, and the template written back from it.
     fn stored(&mut self, template: &[u8]) -> anyhow::Result<Option<Vec<u8>>> {
+        // as long as the longest code
         let mut buffer = [0; CODE_LIMIT];
         match encode(template, &mut buffer) {
             Ok(size) => {
@@ -96,7 +99,7 @@ impl Report {
                 let name = fault.name();
                 writeln!(
                     self.text,
-                    "  refused {number} {name}: a code has at most 1024 bytes"
+                    "  refused {number} {name}: a code has at most {CODE_LIMIT} bytes"
                 )?;
                 Ok(None)
             }
@@ -118,6 +121,7 @@ impl Report {
     }
 
     fn push_back(&mut self, code: &[u8]) -> anyhow::Result<()> {
+        // as long as the longest template
         let mut buffer = [0; TEMPLATE_LIMIT];
         if let Ok(size) = write_back(code, &mut buffer)
             && let Some(back) = buffer.get(..size)

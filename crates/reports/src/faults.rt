@@ -152,6 +152,7 @@ impl fmt::Display for SeparatorFault<'_> {
             return Ok(());
         };
         let InSeparator { piece, side, fault } = self.inner;
+        // as long as the longest template
         let mut scratch = [0; TEMPLATE_LIMIT];
         let size = halve(typed, b'|', &mut scratch).unwrap_or(0);
         let text = scratch.get(..size).unwrap_or(&[]);

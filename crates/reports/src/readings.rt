@@ -3,6 +3,7 @@ use controls::{Steps, SubFormatterConst};
 use formatter::{Formatter, halve};
 use grammar::{BindPowerPair, ChildIndex, TEMPLATE_LIMIT};
 use matchers::{MatcherConst, MatcherKindConst};
+use refusal::Side;
 use std::fmt;
 use templates::parse_template;
 
@@ -76,15 +77,15 @@ impl fmt::Display for Piece<'_> {
                     f,
                     "{}{}{}",
                     Separator {
-                        side: "left",
+                        side: Side::Left,
                         typed: left_sep,
                     },
                     Separator {
-                        side: "middle",
+                        side: Side::Middle,
                         typed: middle_sep,
                     },
                     Separator {
-                        side: "right",
+                        side: Side::Right,
                         typed: right_sep,
                     }
                 )
@@ -102,6 +103,7 @@ impl fmt::Display for Plain<'_> {
     fn fmt<W: fmt::Write>(&self, f: &mut fmt::Formatter<W>) -> fmt::Result {
         match self.0 {
             SubFormatterConst::String(text) => {
+                // as long as the longest template
                 let mut scratch = [0; TEMPLATE_LIMIT];
                 let size = halve(text, b'$', &mut scratch).unwrap_or(0);
                 write!(f, "text {}", Quoted(scratch.get(..size).unwrap_or(&[])))
@@ -145,7 +147,7 @@ impl fmt::Display for Way<'_> {
 // A separator that was written: its pieces, nothing where it was not.
 #[derive(Clone, Copy)]
 struct Separator<'a> {
-    side: &'static str,
+    side: Side,
     typed: &'a [u8],
 }
 
@@ -156,11 +158,13 @@ impl fmt::Display for Separator<'_> {
         }
         let side = self.side;
         write!(f, "\n      {side} separator: ")?;
+        // as long as the longest template
         let mut scratch = [0; TEMPLATE_LIMIT];
         let size = halve(self.typed, b'|', &mut scratch).unwrap_or(0);
         let Ok(read) = parse_template(scratch.get(..size).unwrap_or(&[])) else {
             return Ok(());
         };
+        // `answers` parts its lists alike, with marks of one byte and another word for none
         let mut none = true;
         for piece in read.outputs() {
             if !none {

@@ -9,12 +9,8 @@ pub enum Shown<'a> {
     Escaped(&'a [u8]),
 }
 
-fn is_control(b: u8) -> bool {
-    b < 32 || b == 127
-}
-
 fn is_printable(b: u8) -> bool {
-    b >= 32 && b < 127
+    matches!(b, b' '..=b'~')
 }
 
 // Further bytes of a character take no column of their own.
@@ -24,7 +20,7 @@ fn begins_character(b: u8) -> bool {
 
 impl<'a> Shown<'a> {
     pub fn new(bytes: &'a [u8]) -> Shown<'a> {
-        if bytes.iter().any(|b| is_control(*b)) {
+        if bytes.iter().any(|b| b.is_ascii_control()) {
             return Shown::Escaped(bytes);
         }
         match str::from_utf8(bytes) {

@@ -10,7 +10,8 @@ use controls::{SubFormatterConst, parse_control, unpaired};
 use grammar::{BindPowerPair, PIECE_ALLOWANCE, TEMPLATE_LIMIT};
 use refusal::{FormatterError, ParseError};
 
-// A place goes with the whole text, and not with the rest of it, since a fault is placed from the beginning of the template.
+// A place goes with the whole text, and not with the rest of it, since a fault is placed from the beginning of the template. `Outputs` holds
+// the two for those who want the pieces; here they are what the definitions of the grammar take.
 
 // The control that stands at `at` in the text, if it does not end there, and its length.
 fn parse_leading<'a>(

@@ -39,7 +39,7 @@ impl Typed {
     }
 }
 
-// The rows of terms.
+// The rows of terms. By a loop, here and for nodes, since of what `collect` makes of things that borrow nothing is proved.
 pub fn rows(heap: Global, terms: &[Typed]) -> Result<Vec<Row<'_>>, AllocError>
     ensures names { IfOk result (λ v. map row_name v.items ≡ map typed_name terms.now) }
     ensures children { IfOk result (λ v. map row_children v.items ≡ map typed_numbers terms.now) }

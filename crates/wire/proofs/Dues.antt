@@ -4,6 +4,7 @@ use Rattle.std.proofs.lemmas.List.{drop-drop}
 use Rattle.codes.specs.Decode.{Got, on_some, byte_at, word_at, capture_at}
 use Rattle.grammar.proofs.Chains.{same_some, nothing}
 use Rattle.wire.proofs.Operands.{byte_behind, word_behind, word_later, index_behind, index_later, capture_behind}
+use Rattle.wire.specs.Cursor.{IsTailOf}
 use Rattle.wire.specs.Commands.{byte_in, word_in, index_in, capture_in}
 use Rattle.wire.specs.Reading.{command_at, command_first, index_first, placed, Takes}
 use Rattle.wire.specs.declared.commands.Command.{Command}
@@ -119,3 +120,19 @@ fewer (c ∷ cs) r k e = go (command_at 0 (c ∷ cs)) (forth (c ∷ cs)) (sym (b
         let y : length (drop p.1 (c ∷ cs)) ≡ length r = ap (λ (t : Command × List ℕ). length t.1) x in
         let s = shorter p.1 (c ∷ cs) h (omega arith) in
         omega arith
+
+-- ---- what is left are bytes from the end
+pub tail_itself : (cs : List ℕ) → IsTailOf cs cs
+tail_itself cs = (0, refl)
+
+pub tail_of_tail : (r s cs : List ℕ) → IsTailOf r s → IsTailOf s cs → IsTailOf r cs
+tail_of_tail r s cs p q = (q.0 + p.0, p.1 ∙ ap (drop p.0) q.1 ∙ drop-drop p.0 q.0 cs)
+
+pub tail_behind : (cs r : List ℕ) (k : Command) → command_first cs ≡ Some (k, r) → IsTailOf r cs
+tail_behind cs r k e = go (command_at 0 cs) (sym (by_place cs) ∙ e)
+  where
+    go : (m : Option (Command × ℕ)) → on_some m (left cs) ≡ Some (k, r) → IsTailOf r cs
+    go None f = nothing (k, r) f
+    go (Some p) f =
+        let x : ◌≡◌ {A = Command × List ℕ} (p.0, drop p.1 cs) (k, r) = same_some _ _ f in
+        (p.1, sym (ap (λ (t : Command × List ℕ). t.1) x))

@@ -2,7 +2,7 @@ ghost use Rattle.std.specs.Prelude.{◌≡◌};
 
 use grammar::ChildIndex;
 
-// A command of a code with its operands.
+// A command of a code with its operands, word by word in the order in which they stand.
 #[derive(Clone, Copy, Debug, PartialEq, Eq)]
 pub enum Command {
     End,

@@ -2,7 +2,7 @@ ghost use Rattle.std.specs.Prelude.{◌≡◌, ◌<◌, ◌≤◌, ◌==◌, len
 ghost use Rattle.std.specs.Iterator.{YieldsFirst, item_count};
 ghost use Rattle.codes.specs.Decode.{byte_at, word_at, capture_at};
 ghost use Rattle.wire.specs.Ahead.{ahead, past};
-ghost use Rattle.wire.specs.Cursor.{ahead_of, bytes_of};
+ghost use Rattle.wire.specs.Cursor.{ahead_of, bytes_of, IsTailOf};
 ghost use Rattle.wire.specs.Reading.{Takes, index_first, command_first};
 
 use crate::commands::Command;
@@ -35,6 +35,7 @@ impl<'a> Commands<'a> {
     pub fn pass(&mut self)
         ensures commands { ahead_of self.new ≡ past (ahead_of self.old) }
         ensures fewer { length (bytes_of self.new) ≤ length (bytes_of self.old) }
+        ensures tail { IsTailOf (bytes_of self.new) (bytes_of self.old) }
     {
         'passing: while let Some(command) = self.read() {
             if command.is_end() {
