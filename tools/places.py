@@ -89,7 +89,7 @@ def twins(folder):
             m = re.match(r'(\s*)(?:pub(?:\(crate\))? )?(?:extern "C" )?fn (\w+)', line)
             if not m:
                 continue
-            body, open_, end = [], False, m.group(1) + '}'
+            body, open_, end = [], line.rstrip().endswith('{'), m.group(1) + '}'
             for _, l in text[k + 1:]:
                 if l == m.group(1) + '{' or (not open_ and l.rstrip().endswith('{') and not l.strip().startswith(('ensures', 'requires'))):
                     open_ = True
@@ -99,7 +99,7 @@ def twins(folder):
                 if open_:
                     body.append(l)
             shape = re.sub(r'\b[a-z_]\w*\b|\b[A-Z]\w*\b|b?\'[^\']*\'|"[^"]*"|\b\d+\b', 'x', ' '.join(x.strip() for x in body))
-            if len(shape) > 60:
+            if len(shape) > 55:
                 seen.setdefault(shape, []).append((path, n, m.group(2)))
     for places in seen.values():
         if len(places) > 1:
