@@ -5,7 +5,7 @@ use Rattle.lines.specs.Events.{Event, visit, byte, missing}
 use Rattle.lines.specs.declared.error.LineError.{LineError}
 use Rattle.lines.specs.declared.error.LineError.TheVariants.{MissingChild, TooDeep, TooManyVisits, OutputFull}
 use Rattle.moves.specs.declared.writing.LinePen.{LinePen}
-use Rattle.pen.specs.Pen.{Page, blank}
+use Rattle.pen.specs.Pen.{Page, blank, behind}
 
 -- the buffer that is written into, its bytes, and the visits so far
 pub record State : Type 0 where
@@ -24,6 +24,10 @@ state p = record { buffer = p.out.ghost_name; page = record { written = take p.a
 -- before anything is written or visited
 abbrev pub fresh : ℕ → List ℕ → State
 fresh b l = record { buffer = b; page = blank l; visits = 0 }
+
+-- behind the first `at` bytes and so many visits
+abbrev pub resumed : ℕ → ℕ → ℕ → List ℕ → State
+resumed b at n l = record { buffer = b; page = behind at l; visits = n }
 
 abbrev pub outcome : LinePen → Result (Unit {0}) LineError → Outcome
 outcome p r = record { state = state p; end = r }

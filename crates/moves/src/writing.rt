@@ -22,7 +22,7 @@ impl<'a> LinePen<'a> {
     ghost use Rattle.std.specs.Prelude.{◌≡◌, ℕ, [], ◌∷◌, OnOk};
     ghost use Rattle.lines.specs.Cut.{depth_limit};
     ghost use Rattle.lines.specs.Events.{visit, byte, bytes};
-    ghost use Rattle.moves.specs.Run.{state, fresh, outcome, run};
+    ghost use Rattle.moves.specs.Run.{state, fresh, resumed, outcome, run};
 
     // A pen at the start of a buffer, before the first visit.
     pub fn new(out: &'a mut [u8]) -> LinePen<'a>
@@ -33,6 +33,19 @@ impl<'a> LinePen<'a> {
             out,
             at: 0,
             visits: 0,
+        }
+    }
+
+    // A pen behind the bytes and the visits of a print that goes on; at the buffer's end, if it has fewer bytes.
+    pub fn resume(out: &'a mut [u8], from: Printed) -> LinePen<'a>
+        ensures same { result.out.ghost_name ≡ out.entry.ghost_name }
+        ensures state { state result ≡ resumed out.entry.ghost_name from.count from.visits out.old }
+    {
+        let at = from.count.min(out.len());
+        LinePen {
+            out,
+            at,
+            visits: from.visits,
         }
     }
 

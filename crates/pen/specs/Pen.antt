@@ -12,6 +12,10 @@ pub record Page : Type 0 where
 abbrev pub blank : List ℕ → Page
 blank l = record { written = []; rest = l }
 
+-- a buffer whose first `at` bytes count as written, all of them if it has fewer
+abbrev pub behind : ℕ → List ℕ → Page
+behind at l = record { written = take at l; rest = drop at l }
+
 -- the page with more bytes on it, as many as it has room for
 abbrev pub writes : List ℕ → Page → Page
 writes bs p = record { written = p.written ++ take (length p.rest) bs; rest = drop (length bs) p.rest }

@@ -14,7 +14,7 @@ pub struct Pen<'a> {
 
 impl<'a> Pen<'a> {
     ghost use Rattle.std.specs.Prelude.{◌≡◌, [], ◌∷◌};
-    ghost use Rattle.pen.specs.Pen.{page, blank, Wrote};
+    ghost use Rattle.pen.specs.Pen.{page, blank, behind, Wrote};
 
     // A pen at the start of a buffer.
     pub fn new(out: &'a mut [u8]) -> Pen<'a>
@@ -22,6 +22,15 @@ impl<'a> Pen<'a> {
         ensures page { page result ≡ blank out.old }
     {
         Pen { out, at: 0 }
+    }
+
+    // A pen behind the first `at` bytes of a buffer; at its end, if it has fewer.
+    pub fn resume(out: &'a mut [u8], at: usize) -> Pen<'a>
+        ensures same { result.out.ghost_name ≡ out.entry.ghost_name }
+        ensures page { page result ≡ behind at out.old }
+    {
+        let at = at.min(out.len());
+        Pen { out, at }
     }
 
     // Writes a byte behind the others.

@@ -1,5 +1,6 @@
 pub mod Marks
 pub mod Turns
+pub mod Words
 pub mod Ways
 pub mod Ones
 pub mod Greater

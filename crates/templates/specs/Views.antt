@@ -4,12 +4,14 @@ use Rattle.controls.specs.Views.{shape}
 use Rattle.controls.specs.declared.defns_const.SubFormatterConst.{SubFormatterConst}
 use Rattle.controls.specs.declared.defns_const.SubFormatterConst.TheVariants.{String, Single, Repeat, Capture}
 use Rattle.grammar.specs.Controls.{control_at}
+use Rattle.grammar.specs.Limits.{piece_allowance}
 use Rattle.grammar.specs.Marks.{unpaired}
 use Rattle.grammar.specs.Matchers.{Matched}
-use Rattle.grammar.specs.Results.{Fault}
+use Rattle.grammar.specs.Results.{refusal, Fault}
 use Rattle.grammar.specs.Shapes.{Shape, typed_text}
 use Rattle.grammar.specs.Templates.{Typed, greater, most_typed}
 use Rattle.refusal.specs.declared.error.EitherError.{EitherError}
+use Rattle.refusal.specs.declared.error.FormatterError.TheVariants.{TooManyPieces}
 use Rattle.matchers.specs.Views.{matched}
 use Rattle.refusal.specs.declared.error.ParseError.{ParseError}
 use Rattle.templates.specs.declared.defns_const.FormatterConst.{FormatterConst}
@@ -30,6 +32,10 @@ greater_of m (String t) = m
 greater_of m (Single p i b) = m
 greater_of m (Repeat p f t l c r x y z) = m
 greater_of m (Capture n) = greater m n
+
+-- n pieces and one more, which has `size` bytes from `place` on
+abbrev pub one_more : ℕ → ℕ → ℕ → Result ℕ Fault
+one_more n place size = cond (n == piece_allowance) (refusal TooManyPieces place size) (Ok (n + 1))
 
 -- how many pieces, and the greatest capture among them
 abbrev pub totals : Result (List Shape) Fault → Result (ℕ × Option ℕ) Fault

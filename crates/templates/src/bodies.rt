@@ -1,8 +1,8 @@
 ghost use Rattle.std.specs.Prelude.{◌≡◌, ◌+◌, ◌<◌, ◌≤◌, length, drop, IfOk, MatchOption};
 ghost use Rattle.grammar.specs.Limits.{piece_allowance};
 ghost use Rattle.grammar.specs.Results.{on_ok};
-ghost use Rattle.grammar.specs.Templates.{body_at, formatter_at, leading, piece_at, template_at};
-ghost use Rattle.templates.specs.Views.{seen_piece, greater_of, totals, summed, seen_formatter};
+ghost use Rattle.grammar.specs.Templates.{body_at, formatter_at, leading, template_at};
+ghost use Rattle.templates.specs.Views.{seen_piece, greater_of, one_more, totals, summed, seen_formatter};
 
 use crate::defns_const::FormatterConst;
 use crate::frames::{parse_prefix, parse_suffix};
@@ -30,26 +30,6 @@ fn parse_leading<'a>(
     Ok(Some((piece, used + 1)))
 }
 
-// The piece that stands at `at` in the text, and its length; none at the end. A control is read before the text in front
-// of it counts.
-fn parse_piece<'a>(
-    text: &'a [u8],
-    at: usize,
-) -> Result<Option<(SubFormatterConst<'a>, usize)>, ParseError<FormatterError>>
-    requires { at ≤ length text.now }
-    ensures within { IfOk result (λ o. MatchOption o (0 ≤ 0) (λ p. at + p.1 ≤ length text.now)) }
-    ensures more { IfOk result (λ o. MatchOption o (0 ≤ 0) (λ p. 0 < p.1)) }
-    ensures value { seen_piece result ≡ piece_at at (drop at text.now) }
-{
-    let size = unpaired(&text[at..], b'$');
-    let control = parse_leading(text, at + size)?;
-    if size == 0 {
-        return Ok(control);
-    }
-    let words = &text[at..at + size];
-    Ok(Some((SubFormatterConst::String(words), size)))
-}
-
 // The greater of the greatest capture so far and the piece's own.
 fn greater(most: Option<u32>, piece: &SubFormatterConst) -> Option<u32>
     ensures { result ≡ greater_of most piece.now }
@@ -60,6 +40,17 @@ fn greater(most: Option<u32>, piece: &SubFormatterConst) -> Option<u32>
     }
 }
 
+// One piece more, which has `size` bytes from `place` on.
+fn one_more(outputs: usize, place: usize, size: usize) -> Result<usize, ParseError<FormatterError>>
+    requires { outputs ≤ piece_allowance }
+    ensures { result ≡ one_more outputs place size }
+{
+    if outputs == PIECE_ALLOWANCE {
+        return Err(ParseError::new(FormatterError::TooManyPieces, place, size));
+    }
+    Ok(outputs + 1)
+}
+
 // How many pieces stand in the text from `from` on, and the greatest capture among them.
 fn parse_body(text: &[u8], from: usize) -> Result<(usize, Option<u32>), ParseError<FormatterError>>
     requires { from ≤ length text.now }
@@ -68,16 +59,20 @@ fn parse_body(text: &[u8], from: usize) -> Result<(usize, Option<u32>), ParseErr
     let mut at = from;
     let mut outputs = 0;
     let mut most = None;
-    // the place goes along, since a fault of the next piece is placed by it
-    while let Some((piece, size)) = parse_piece(text, at)? {
-        if outputs == PIECE_ALLOWANCE {
-            return Err(ParseError::new(FormatterError::TooManyPieces, at, size));
+    // A text and the control behind it in one turn: the control is read before the text counts, and only once.
+    loop {
+        let words = unpaired(&text[at..], b'$');
+        let control = parse_leading(text, at + words)?;
+        if words > 0 {
+            outputs = one_more(outputs, at, words)?;
         }
-        outputs += 1;
+        let Some((piece, size)) = control else {
+            return Ok((outputs, most));
+        };
+        outputs = one_more(outputs, at + words, size)?;
         most = greater(most, &piece);
-        at += size;
+        at += words + size;
     }
-    Ok((outputs, most))
 }
 
 // A template of at most the allowed length.

@@ -31,6 +31,13 @@ impl<'a> Commands<'a> {
         self.rest.is_empty()
     }
 
+    // How many bytes are left. The next command stands so many bytes before the end of the code.
+    pub fn left(self) -> usize
+        ensures { result ≡ length (bytes_of self.entry) }
+    {
+        self.rest.len()
+    }
+
     // Goes on behind the next END.
     pub fn pass(&mut self)
         ensures commands { ahead_of self.new ≡ past (ahead_of self.old) }

@@ -90,11 +90,20 @@ fn put_open(pen: &mut Pen, waits: bool, opening: u8)
     }
 }
 
+// Opens a path at its first step. The bracket is looked for there alone, since that reads on to the path's end.
+fn put_first(pen: &mut Pen, commands: Commands, waits: bool)
+    ensures { Writes (opened waits (bracket_of (ahead_of commands.entry))) pen.old pen.new }
+{
+    if !waits {
+        put_open(pen, false, bracket(commands));
+    }
+}
+
 // Writes a step, whose path leads to what stands first in `commands` behind the other steps.
 fn put_step(pen: &mut Pen, index: ChildIndex, commands: Commands, waits: bool)
     ensures { Writes (opened waits (bracket_of (ahead_of commands.entry)) ++ (indexed index ++ 58 ∷ [])) pen.old pen.new }
 {
-    put_open(pen, waits, bracket(commands));
+    put_first(pen, commands, waits);
     put_index(pen, index);
     pen.put(b':');
 }

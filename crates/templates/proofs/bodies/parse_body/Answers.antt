@@ -1,43 +1,69 @@
 -- What is left gives the whole, turn by turn.
-use Rattle.std.proofs.Common.{◌≡◌, drop, Some, None, Ok, Err, sym, ap, ◌∙◌, arith}
+use Rattle.std.proofs.Common.{◌≡◌, ℕ, ◌+◌, ◌≤◌, length, drop, Ok, Err, ap, ◌∙◌, inl, inr, arith}
 use Rattle.std.proofs.lemmas.Result.{err_from_is_err_and}
-use Rattle.std.proofs.lemmas.List.{drop-drop}
+use Rattle.std.proofs.lemmas.List.{take_rest}
 use Rattle.std.proofs.lemmas.Option.{MatchOption-at_some}
+use Rattle.grammar.specs.Marks.{unpaired}
 use Rattle.grammar.specs.Results.{Fault}
-use Rattle.grammar.specs.Templates.{piece_at}
 use Rattle.controls.specs.Views.{shape}
 use Rattle.templates.specs.Views.{seen_output}
 use Rattle.templates.proofs.Greater.{greater-most}
-use Rattle.templates.proofs.Turns.{rest_none, rest_refused, rest_ended, rest_more, rest_full, whole_is}
+use Rattle.templates.proofs.Turns.{rest_none, whole_is}
+use Rattle.templates.proofs.Words.{Counted, words_refused, text_full, few_still, body_ended, control_full, control_passed}
 use Rattle.templates.proofs.bodies.parse_body.Goals as goal
+use Rattle.templates.proofs.bodies.parse_body.Goals.{then-words-gt0+in_ok-outputs, else-words-gt0}
 
-pub loop-piece-init : goal.loop-piece-init
-loop-piece-init c = (c.requires, omega arith, rest_none c.args.from (drop c.args.from c.args.text.now))
+pub loop-control-init : goal.loop-control-init
+loop-control-init c = (c.requires, omega arith, rest_none c.args.from (drop c.args.from c.args.text.now))
 
-pub returns-in_err-piece : goal.returns-in_err-piece
-returns-in_err-piece c =
+pub returns-in_err-control : goal.returns-in_err-control
+returns-in_err-control c =
     let p = err_from_is_err_and c.from_residual.result c.from_residual.ensures.1 in
-    let l = c.loop-piece in
-    p.1 ∙ ap (λ (x : Fault). Err x) p.2 ∙ rest_refused l.outputs l.at l.most (drop l.at c.args.text.now) _ c.in_err-piece.ensures.value ∙ l.invariant.2 ∙ whole_is c.args.from (drop c.args.from c.args.text.now)
+    let l = c.loop-control in
+    let k : c.unpaired-words.result ≡ unpaired 36 (drop l.at c.args.text.now) = rw (take_rest c.args.text.now l.at) at c.unpaired-words.ensures.value in
+    p.1 ∙ ap (λ (x : Fault). Err x) p.2 ∙ words_refused c.args.text.now l.at c.unpaired-words.result k l.outputs l.most _ c.in_err-control.ensures.value ∙ l.invariant.2 ∙ whole_is c.args.from (drop c.args.from c.args.text.now)
 
-pub returns-then-outputs-eq-PIECE_ALLOWANCE : goal.returns-then-outputs-eq-PIECE_ALLOWANCE
-returns-then-outputs-eq-PIECE_ALLOWANCE c =
-    let l = c.loop-piece in
-    let one : Ok (Some (shape c.in-Some.piece, c.in-Some.size)) ≡ piece_at l.at (drop l.at c.args.text.now) = ap (λ o. Ok (seen_output o)) (sym c.in-Some.is) ∙ c.in_ok-piece.ensures.value in
-    ap (λ (x : Fault). Err x) c.new.ensures ∙ rest_full l.outputs l.at l.most (drop l.at c.args.text.now) (shape c.in-Some.piece) c.in-Some.size c.if-outputs-eq-PIECE_ALLOWANCE.true one ∙ l.invariant.2 ∙ whole_is c.args.from (drop c.args.from c.args.text.now)
+pub returns-in_err-outputs : goal.returns-in_err-outputs
+returns-in_err-outputs c =
+    let p = err_from_is_err_and c.from_residual-in_err-outputs.result c.from_residual-in_err-outputs.ensures.1 in
+    let l = c.loop-control in
+    let k : c.unpaired-words.result ≡ unpaired 36 (drop l.at c.args.text.now) = rw (take_rest c.args.text.now l.at) at c.unpaired-words.ensures.value in
+    p.1 ∙ ap (λ (x : Fault). Err x) p.2 ∙ text_full c.args.text.now l.at c.unpaired-words.result k (seen_output c.in_ok-control.control) c.in_ok-control.ensures.value l.outputs l.most _ c.if-words-gt0.true c.in_err-outputs.ensures ∙ l.invariant.2 ∙ whole_is c.args.from (drop c.args.from c.args.text.now)
 
-pub loop-piece-preserved : goal.loop-piece-preserved
-loop-piece-preserved c =
-    let l = c.loop-piece in
-    let one : Ok (Some (shape c.in-Some.piece, c.in-Some.size)) ≡ piece_at l.at (drop l.at c.args.text.now) = ap (λ o. Ok (seen_output o)) (sym c.in-Some.is) ∙ c.in_ok-piece.ensures.value in
-    let more = rest_more l.outputs l.at l.most (drop l.at c.args.text.now) (shape c.in-Some.piece) c.in-Some.size (omega arith) one in (
-      MatchOption-at_some _ _ (c.in-Some.piece, c.in-Some.size) c.in-Some.is c.in_ok-piece.ensures.within,
-      omega arith,
-      rw (c.greater-most.ensures, greater-most l.most c.in-Some.piece, ← drop-drop c.in-Some.size l.at c.args.text.now) (sym more ∙ l.invariant.2),
+pub returns-in_default : goal.returns-in_default
+returns-in_default c =
+    let l = c.loop-control in
+    let k : c.unpaired-words.result ≡ unpaired 36 (drop l.at c.args.text.now) = rw (take_rest c.args.text.now l.at) at c.unpaired-words.ensures.value in
+    let w : Counted l.outputs l.at c.unpaired-words.result c.if-words-gt0.outputs =
+    elim c.if-words-gt0.branch [ then-words-gt0+in_ok-outputs w ↦ inl (w.if-words-gt0.true, ap (λ (x : ℕ). Ok x) w.outputs-is ∙ w.in_ok-outputs.ensures) | else-words-gt0 w ↦ inr (w.if-words-gt0.false, w.outputs-is) ] in
+    body_ended c.args.text.now l.at c.unpaired-words.result k (seen_output c.in_ok-control.control) c.in_ok-control.ensures.value l.outputs c.if-words-gt0.outputs l.most l.invariant.1 w (ap seen_output c.in_default.is) ∙ l.invariant.2 ∙ whole_is c.args.from (drop c.args.from c.args.text.now)
+
+pub one_more-requires-in-loop-control : goal.one_more-requires-in-loop-control
+one_more-requires-in-loop-control c =
+    let l = c.loop-control in
+    let k : c.unpaired-words.result ≡ unpaired 36 (drop l.at c.args.text.now) = rw (take_rest c.args.text.now l.at) at c.unpaired-words.ensures.value in
+    let w : Counted l.outputs l.at c.unpaired-words.result c.if-words-gt0.outputs =
+    elim c.if-words-gt0.branch [ then-words-gt0+in_ok-outputs w ↦ inl (w.if-words-gt0.true, ap (λ (x : ℕ). Ok x) w.outputs-is ∙ w.in_ok-outputs.ensures) | else-words-gt0 w ↦ inr (w.if-words-gt0.false, w.outputs-is) ] in
+    few_still c.args.text.now l.at c.unpaired-words.result k (seen_output c.in_ok-control.control) c.in_ok-control.ensures.value l.outputs c.if-words-gt0.outputs l.most l.invariant.1 w
+
+pub returns-in_err-outputs-2 : goal.returns-in_err-outputs-2
+returns-in_err-outputs-2 c =
+    let p = err_from_is_err_and c.from_residual-in_err-outputs-2.result c.from_residual-in_err-outputs-2.ensures.1 in
+    let l = c.loop-control in
+    let k : c.unpaired-words.result ≡ unpaired 36 (drop l.at c.args.text.now) = rw (take_rest c.args.text.now l.at) at c.unpaired-words.ensures.value in
+    let w : Counted l.outputs l.at c.unpaired-words.result c.if-words-gt0.outputs =
+    elim c.if-words-gt0.branch [ then-words-gt0+in_ok-outputs w ↦ inl (w.if-words-gt0.true, ap (λ (x : ℕ). Ok x) w.outputs-is ∙ w.in_ok-outputs.ensures) | else-words-gt0 w ↦ inr (w.if-words-gt0.false, w.outputs-is) ] in
+    p.1 ∙ ap (λ (x : Fault). Err x) p.2 ∙ control_full c.args.text.now l.at c.unpaired-words.result k (seen_output c.in_ok-control.control) c.in_ok-control.ensures.value l.outputs c.if-words-gt0.outputs l.most l.invariant.1 w (shape c.in-Some.piece) c.in-Some.size _ (ap seen_output c.in-Some.is) c.in_err-outputs-2.ensures ∙ l.invariant.2 ∙ whole_is c.args.from (drop c.args.from c.args.text.now)
+
+pub loop-control-preserved : goal.loop-control-preserved
+loop-control-preserved c =
+    let l = c.loop-control in
+    let k : c.unpaired-words.result ≡ unpaired 36 (drop l.at c.args.text.now) = rw (take_rest c.args.text.now l.at) at c.unpaired-words.ensures.value in
+    let w : Counted l.outputs l.at c.unpaired-words.result c.if-words-gt0.outputs =
+    elim c.if-words-gt0.branch [ then-words-gt0+in_ok-outputs w ↦ inl (w.if-words-gt0.true, ap (λ (x : ℕ). Ok x) w.outputs-is ∙ w.in_ok-outputs.ensures) | else-words-gt0 w ↦ inr (w.if-words-gt0.false, w.outputs-is) ] in
+    let within = MatchOption-at_some _ (λ p. l.at + c.unpaired-words.result + p.1 ≤ length c.args.text.now) (c.in-Some.piece, c.in-Some.size) c.in-Some.is c.in_ok-control.ensures.within in
+    let passed = control_passed c.args.text.now l.at c.unpaired-words.result k (seen_output c.in_ok-control.control) c.in_ok-control.ensures.value l.outputs c.if-words-gt0.outputs l.most l.invariant.1 w (shape c.in-Some.piece) c.in-Some.size c.in_ok-outputs-2.outputs (ap seen_output c.in-Some.is) c.in_ok-outputs-2.ensures in (
+      omega (arith, within),
+      passed.0,
+      rw (c.greater-most.ensures, greater-most l.most c.in-Some.piece) (passed.1 ∙ l.invariant.2),
     )
-
-pub returns : goal.returns
-returns c =
-    let l = c.loop-piece in
-    let none : Ok None ≡ piece_at l.at (drop l.at c.args.text.now) = ap (λ o. Ok (seen_output o)) (sym c.in_default.is) ∙ c.in_ok-piece.ensures.value in
-    rest_ended l.outputs l.at l.most (drop l.at c.args.text.now) none ∙ l.invariant.2 ∙ whole_is c.args.from (drop c.args.from c.args.text.now)
