@@ -1,4 +1,5 @@
 pub mod Cuts
 pub mod MarkSteps
 pub mod PathSteps
+pub mod PathWhole
 pub mod Strides
