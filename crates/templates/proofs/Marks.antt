@@ -1,6 +1,7 @@
 -- Where marks stand.
-use Rattle.std.proofs.Common.{◌≡◌, ℕ, zero, suc, ◌+◌, ◌<◌, true, false, cond, eqb, ltb, List, [], ◌∷◌, length, get_or, Some, None, Option, MatchOption, sym, refl, ap, arith}
+use Rattle.std.proofs.Common.{◌≡◌, ℕ, zero, suc, ◌+◌, ◌<◌, true, false, cond, eqb, ltb, List, [], ◌∷◌, length, get_or, drop, Some, None, Option, MatchOption, sym, refl, ap, arith}
 use Rattle.std.specs.List.{position_or_len}
+use Rattle.std.proofs.lemmas.Bool.{eq-eqb}
 use Rattle.std.proofs.lemmas.Bool.Decides.{nat_tests}
 use Rattle.std.proofs.lemmas.List.Recursion.{is_position_or_len}
 use Rattle.grammar.specs.Marks.{up_to, first_byte, last_byte}
@@ -37,3 +38,12 @@ pub found_last : (m : ℕ) (xs : List ℕ) (o : Option ℕ)
     → o ≡ last_byte m xs
 found_last m xs None h = none_last m xs h
 found_last m xs (Some i) h = some_last m xs i h.0 h.1 h.2
+
+-- a mark is the last one where none stands in what is behind it
+pub last_here : (m : ℕ) (cs : List ℕ) (i : ℕ) → i < length cs → get_or cs i 0 ≡ m → last_byte m (drop (i + 1) cs) ≡ None → last_byte m cs ≡ Some i
+last_here m [] i h s e = absurd (omega arith)
+last_here m (c ∷ cs) zero h s e = rw e (rw (eq-eqb c m s) refl)
+last_here m (c ∷ cs) (suc i) h s e =
+    let p : suc i + 1 ≡ suc (i + 1) = omega arith in
+    let q : last_byte m (drop (i + 1) cs) ≡ None = rw p at e in
+    rw (last_here m cs i (omega arith) s q) refl
