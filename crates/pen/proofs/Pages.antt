@@ -1,26 +1,43 @@
 -- Bytes written one behind the other.
-use Rattle.std.proofs.Common.{◌≡◌, ℕ, ◌+◌, ◌-◌, ◌≤◌, ◌<◌, true, false, leb, List, [], ◌∷◌, ◌++◌, length, take, drop, Ok, Err, Result, is_ok, IsErrAnd, set, sym, refl, ap, subst, ◌∙◌, append_assoc, arith, length-append, length-drop}
+use Rattle.std.proofs.Common.{◌≡◌, ℕ, ◌+◌, ◌-◌, ◌≤◌, ◌<◌, true, false, leb, List, [], ◌∷◌, ◌++◌, length, take, drop, Ok, Err, Result, is_ok, IsErrAnd, set, sym, refl, ap, subst, ◌∙◌, ⊎_elim, append_assoc, arith, length-append, length-drop}
+use Rattle.std.proofs.str.Laws.{order}
 use Rattle.std.proofs.lemmas.Bool.{le-leb}
 use Rattle.std.proofs.lemmas.Bool.Decides.{nat_tests}
 use Rattle.std.proofs.lemmas.Result.{err_from_is_err_and}
-use Rattle.std.proofs.lemmas.List.{take_all, take_more_set, drop-set-lt, drop_all, drop-drop, append-nil, take-append-le}
+use Rattle.std.proofs.lemmas.List.{length-take, take_all, take_more_set, drop-set-lt, drop_all, drop-drop, append-nil, take-append-le}
 use Rattle.std.proofs.Math.Seq.{take-append-add}
 use Rattle.pen.specs.Pen.{Page, writes, page, Wrote}
 use Rattle.pen.specs.declared.writing.Full.{Full}
 use Rattle.pen.specs.declared.writing.Pen.{Pen}
+
+-- ---- a page stays as long as it was
+pub writes-length : (bs : List ℕ) (p : Page) → length (writes bs p).written + length (writes bs p).rest ≡ length p.written + length p.rest
+writes-length bs p = omega (arith, length-append p.written (take (length p.rest) bs), length-take (length p.rest) bs, length-drop (length bs) p.rest)
 
 -- ---- more bytes behind the first ones
 module _ (p : Page) (u v : List ℕ) where
   left_over : length (drop (length u) p.rest) ≡ length p.rest - length u
   left_over = length-drop (length u) p.rest
 
-  pub writes_more : length u ≤ length p.rest → writes v (writes u p) ≡ writes (u ++ v) p
-  writes_more h =
-      let k = length (drop (length u) p.rest) in
-      let e : length p.rest ≡ length u + k = omega (arith, left_over) in
-      let t : (p.written ++ take (length p.rest) u) ++ take k v ≡ p.written ++ take (length p.rest) (u ++ v) =
-      append_assoc p.written (take (length p.rest) u) (take k v)
-      ∙ ap (λ l. p.written ++ l) (ap (λ l. l ++ take k v) (take_all (length p.rest) u h) ∙ sym (ap (λ n. take n (u ++ v)) e ∙ take-append-add u v k)) in
+  -- as many of both as there is room for
+  taken : take (length p.rest) u ++ take (length (drop (length u) p.rest)) v ≡ take (length p.rest) (u ++ v)
+  taken = ⊎_elim none some (order (length p.rest) (length u))
+    where
+      none : length p.rest < length u → take (length p.rest) u ++ take (length (drop (length u) p.rest)) v ≡ take (length p.rest) (u ++ v)
+      none h =
+          let e : length (drop (length u) p.rest) ≡ 0 = omega (arith, left_over) in
+          ap (λ k. take (length p.rest) u ++ take k v) e ∙ append-nil (take (length p.rest) u) ∙ sym (take-append-le (length p.rest) u v (omega arith))
+
+      some : length u ≤ length p.rest → take (length p.rest) u ++ take (length (drop (length u) p.rest)) v ≡ take (length p.rest) (u ++ v)
+      some h =
+          let k = length (drop (length u) p.rest) in
+          let e : length p.rest ≡ length u + k = omega (arith, left_over) in
+          ap (λ l. l ++ take k v) (take_all (length p.rest) u h) ∙ sym (ap (λ n. take n (u ++ v)) e ∙ take-append-add u v k)
+
+  -- both at once, whether or not there is room for them
+  pub writes_more : writes v (writes u p) ≡ writes (u ++ v) p
+  writes_more =
+      let t = append_assoc p.written (take (length p.rest) u) (take (length (drop (length u) p.rest)) v) ∙ ap (λ l. p.written ++ l) taken in
       let d : drop (length v) (drop (length u) p.rest) ≡ drop (length (u ++ v)) p.rest = drop-drop (length v) (length u) p.rest ∙ ap (λ n. drop n p.rest) (sym (length-append u v)) in
       λ i. record { written = t i; rest = d i }
 
@@ -51,7 +68,7 @@ module _ {p q : Pen} {u : List ℕ} where
       let h = has_room a refl in
       record {
         same = b.same ∙ a.same;
-        bytes = b.bytes ∙ ap (writes v) a.bytes ∙ writes_more (page p) u v h;
+        bytes = b.bytes ∙ ap (writes v) a.bytes ∙ writes_more (page p) u v;
         answer = b.answer ∙ ap (λ (g : Page). leb (length v) (length g.rest)) a.bytes ∙ room_more (page p) u v h;
       }
 
