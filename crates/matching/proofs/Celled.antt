@@ -127,17 +127,21 @@ way_head (Take s q ∷ is) (takes {rest = rest} part m n w) = rw (length-append 
 way_head (Open k ∷ is) (opened w) = omega arith
 way_head (Close k ∷ is) (closed w) = omega arith
 
-code_small : (is : List Item) (cs : List ℕ) (a m : ℕ) → length cs + a ≤ m → IfSome (code (best (as_seq is) at_end cs)) (λ n. n + a ≤ m)
-code_small is cs a m h = go (best (as_seq is) at_end cs) refl
+code_small : (is : List Item) (cs : List ℕ) (P : ℕ → Type 0) → ((n : ℕ) → n ≤ length cs → P n) → IfSome (code (best (as_seq is) at_end cs)) P
+code_small is cs P h = go (best (as_seq is) at_end cs) refl
   where
-    go : (r : Option (List ℕ)) → best (as_seq is) at_end cs ≡ r → IfSome (code r) (λ n. n + a ≤ m)
+    go : (r : Option (List ℕ)) → best (as_seq is) at_end cs ≡ r → IfSome (code r) P
     go None e = tt
-    go (Some []) e = omega arith
-    go (Some (t ∷ ts)) e = let w = rw e at (best_top (as_seq is) cs) in omega (arith, way_head is w.0)
+    go (Some []) e = h 0 (omega arith)
+    go (Some (t ∷ ts)) e = let w = rw e at (best_top (as_seq is) cs) in h t (way_head is w.0)
+
+-- from any place on, in the name or beyond its end, no more is taken than the name has
+pub cell_small : (items : List Item) (name : List ℕ) (i a m : ℕ) → length name ≤ m → IfSome (cell items name i a) (λ n. n ≤ m)
+cell_small items name i a m w = code_small (drop i items) (drop a name) (λ n. n ≤ m) (λ n h. omega (arith, h, length-drop a name))
 
 -- from a place of the name no more is taken than is left
-pub cell_small : (items : List Item) (name : List ℕ) (i a m : ℕ) → a ≤ length name → length name ≤ m → IfSome (cell items name i a) (λ n. n + a ≤ m)
-cell_small items name i a m h w = code_small (drop i items) (drop a name) a m (omega (arith, length-drop a name))
+pub cell_left : (items : List Item) (name : List ℕ) (i a m : ℕ) → a ≤ length name → length name ≤ m → IfSome (cell items name i a) (λ n. n + a ≤ m)
+cell_left items name i a m h w = code_small (drop i items) (drop a name) (λ n. n + a ≤ m) (λ n k. omega (arith, k, length-drop a name))
 
 -- a cell at any place of the name, from those behind it
 module _ (items : List Item) (name : List ℕ) (i p m : ℕ) (d : Item) (byte later after again : Option ℕ) where

@@ -1,6 +1,6 @@
 use Rattle.std.proofs.Common.{◌≡◌, ℕ, ◌+◌, ◌-◌, ◌<◌, ◌≤◌, ◌≢◌, cond, ltb, List, [], length, get_or, set, Some, None, Option, IfSome, subst, sym, ap, ◌∙◌, arith, rules, get_or-set_same, get_or-set_other, length-set}
 use Rattle.matching.specs.Cells.{cell}
-use Rattle.matching.proofs.Celled.{cell_here, row_more, cell_small}
+use Rattle.matching.proofs.Celled.{cell_here, row_more, cell_left}
 use Rattle.plain.proofs.search.Search.fill_row.Goals as goal
 
 pub loop-at-preserved : goal.loop-at-preserved
@@ -25,5 +25,5 @@ loop-at-preserved c =
       others = λ j n. get_or-set_other table i j made [] n ∙ c.loop-at.invariant.others j n;
       after = λ h. later;
       again = λ h. is;
-      small = subst P (sym is) (cell_small items name i p 255 within (omega arith));
+      small = subst P (sym is) (cell_left items name i p 255 within (omega arith));
     }
