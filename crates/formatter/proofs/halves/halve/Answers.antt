@@ -1,6 +1,6 @@
 use Rattle.std.proofs.Common.{length, ap, arith}
 use Rattle.std.proofs.lemmas.Bool.{le-leb}
-use Rattle.formatter.proofs.Halving.{writes, stands, written, no_longer}
+use Rattle.formatter.proofs.Halving.{writes, stands, all_written, no_longer}
 use Rattle.formatter.proofs.halves.halve.Goals as goal
 
 pub bounds-out-size : goal.bounds-out-size
@@ -18,4 +18,4 @@ loop-b-preserved c = (
 pub returns-clause-bytes : goal.returns-clause-bytes
 returns-clause-bytes c =
     let under = le-leb _ _ c.if-text-out.false in
-    rw under (written c.args.mark c.args.text.now c.loop-b.out c.args.out.now c.loop-b.size (rw c.in-None.ensures.steps.0 at c.loop-b.invariant.3) (rw c.in-None.ensures.steps.0 at c.loop-b.invariant.2) c.loop-b.invariant.4)
+    rw under (all_written c.args.mark c.args.text.now c.loop-b.out c.args.out.now c.loop-b.size (rw c.in-None.ensures.steps.0 at c.loop-b.invariant.3) (rw c.in-None.ensures.steps.0 at c.loop-b.invariant.2) c.loop-b.invariant.4)
