@@ -1,5 +1,5 @@
 ghost use Rattle.std.specs.List.{AllByRecursion};
-ghost use Rattle.std.specs.Prelude.{◌≡◌, length, take, is_ok, IfOk, Decides};
+ghost use Rattle.std.specs.Prelude.{◌≡◌, ◌≤◌, length, take, is_ok, nat_le, IfOk, Decides};
 ghost use Rattle.codes.specs.Acceptable.{Coding, Codable};
 ghost use Rattle.codes.specs.Calls.{filled, after, encoded};
 ghost use Rattle.codes.specs.Laws.{SameCode, NoCodeBegins, RoundTrip, DecodesAccepted};
@@ -77,6 +77,19 @@ fn write(parts: &FormatterConst, scratch: &mut Scratch, pen: &mut Pen<'_>) -> Re
     command(pen, Opcode::End, &[])
 }
 
+// The same at the start of a buffer, and how many bytes it has.
+fn write_to(parts: &FormatterConst, scratch: &mut Scratch, out: &mut [u8]) -> Result<usize, Full>
+    requires { AllByRecursion Whole (outputs_of parts.now) }
+    ensures room { is_ok result ≡ nat_le (length (framed parts.now.bind_power (codes_by shape_code (outputs_of parts.now)))) (length out.old) }
+    ensures long { length out.new ≡ length out.old }
+    ensures within { IfOk result (λ n. n ≤ length out.new) }
+    ensures bytes { IfOk result (λ n. take n out.new ≡ framed parts.now.bind_power (codes_by shape_code (outputs_of parts.now))) }
+{
+    let mut pen = Pen::new(out);
+    write(parts, scratch, &mut pen)?;
+    Ok(pen.written().len())
+}
+
 // The code is written beside the buffer first, so that nothing of it stands there if it is too long.
 fn encode_template(template: &[u8], out: &mut [u8]) -> Result<usize, EncodeError>
     ensures answer { result ≡ filled (Code BufferTooShort) (encoded template.now) out.old }
@@ -86,9 +99,10 @@ fn encode_template(template: &[u8], out: &mut [u8]) -> Result<usize, EncodeError
     // of the longest sizes, since nothing is taken from the heap
     let mut scratch = [0; TEMPLATE_LIMIT];
     let mut code = [0; CODE_LIMIT];
-    let mut pen = Pen::new(&mut code);
-    write(&read.parts, &mut scratch, &mut pen).or(Err(EncodeError::Code(CodeError::CodeTooLong)))?;
-    deliver(pen.written(), out).ok_or(EncodeError::Code(CodeError::BufferTooShort))
+    let size = write_to(&read.parts, &mut scratch, &mut code)
+        .or(Err(EncodeError::Code(CodeError::CodeTooLong)))?;
+    // from the array itself and not by way of the pen, since the compiler then knows that the two lie apart
+    deliver(&code[..size], out).ok_or(EncodeError::Code(CodeError::BufferTooShort))
 }
 
 // Writes the code of a template to the start of the buffer, and answers how many bytes it has. The rest of the buffer stays as
