@@ -1,7 +1,7 @@
 ghost use Rattle.std.specs.Iterator.{IsFinite};
 
 use std::alloc::Global;
-use std::fmt;
+use std::{fmt, str};
 
 // Bytes in hexadecimal, `-` for none.
 #[derive(Clone, Copy)]
@@ -13,6 +13,23 @@ impl fmt::Display for Hex<'_> {
     }
 }
 
+// How many bytes are written at once, their digits put together first: one by one by `write!` they take several times as long.
+const TOGETHER: usize = 32;
+
+fn digit(half: u8) -> u8 {
+    match half {
+        0..=9 => b'0' + half,
+        _ => half.saturating_add(b'a' - 10),
+    }
+}
+
+fn write_pairs<W: fmt::Write>(f: &mut fmt::Formatter<W>, pairs: &[[u8; 2]]) -> fmt::Result {
+    match str::from_utf8(pairs.as_flattened()) {
+        Ok(digits) => f.write_str(digits),
+        Err(_) => Err(fmt::Error),
+    }
+}
+
 // Writes bytes that come one by one in hexadecimal, `-` for none.
 pub fn write_hex<W: fmt::Write, I: Iterator<Item = u8> + Drop>(
     f: &mut fmt::Formatter<W>,
@@ -21,12 +38,24 @@ pub fn write_hex<W: fmt::Write, I: Iterator<Item = u8> + Drop>(
     requires can { I.can_next bytes }
     requires ends { IsFinite (I.remaining bytes) }
 {
+    let mut pairs = [[0; 2]; TOGETHER];
+    let mut waiting = 0usize;
     let mut none = true;
     for b in bytes {
-        write!(f, "{b:02x}")?;
+        if waiting == TOGETHER {
+            write_pairs(f, &pairs)?;
+            waiting = 0;
+        }
+        if let Some(pair) = pairs.get_mut(waiting) {
+            *pair = [digit(b / 16), digit(b % 16)];
+        }
+        waiting = waiting.saturating_add(1);
         none = false;
     }
-    if none { f.write_str("-") } else { Ok(()) }
+    if none {
+        return f.write_str("-");
+    }
+    write_pairs(f, pairs.get(..waiting).unwrap_or(&[]))
 }
 
 // The digits are those that are written: the library's `to_digit` takes capitals too, which are no words here.
@@ -43,6 +72,9 @@ pub fn unhex(heap: Global, word: &str) -> anyhow::Result<Option<Vec<u8>>> {
     let mut bytes = Vec::new(heap);
     if word == "-" {
         return Ok(Some(bytes));
+    }
+    if word.len() % 2 != 0 {
+        return Ok(None);
     }
     for pair in word.as_bytes().chunks(2) {
         let Some(b) = byte(pair) else {

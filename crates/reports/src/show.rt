@@ -74,6 +74,21 @@ impl fmt::Display for Quoted<'_> {
     }
 }
 
+// How many blanks or carets are written at once.
+const TOGETHER: usize = 32;
+
+const BLANKS: &str = "                                ";
+
+const CARETS: &str = "^^^^^^^^^^^^^^^^^^^^^^^^^^^^^^^^";
+
+// So many of the characters that stand in a row of `TOGETHER`.
+fn write_many<W: fmt::Write>(f: &mut fmt::Formatter<W>, row: &str, count: usize) -> fmt::Result {
+    for _ in 0..count / TOGETHER {
+        f.write_str(row)?;
+    }
+    f.write_str(row.get(..count % TOGETHER).unwrap_or(""))
+}
+
 // A text, and on the next line carets under a part of it, one where the part is empty.
 #[derive(Clone, Copy)]
 pub struct Underlined<'a> {
@@ -88,12 +103,8 @@ impl fmt::Display for Underlined<'_> {
         let from = shown.width(self.place);
         let to = shown.width(self.place.saturating_add(self.length));
         write!(f, "    {shown}\n    ")?;
-        for _ in 0..from {
-            f.write_char(' ')?;
-        }
-        for _ in 0..to.saturating_sub(from).max(1) {
-            f.write_char('^')?;
-        }
-        f.write_char('\n')
+        write_many(f, BLANKS, from)?;
+        write_many(f, CARETS, to.saturating_sub(from).max(1))?;
+        f.write_str("\n")
     }
 }
