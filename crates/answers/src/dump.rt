@@ -73,35 +73,22 @@ impl fmt::Display for Plain<'_> {
     }
 }
 
-// A separator, its bars halved and read as a template.
+// A separator, its bars halved and read as a template, which borrows the room: of the two lines that do it no function is made, as it would take the
+// room and hand it back. The room is that of the longest template.
 #[derive(Clone, Copy)]
 struct Separator<'a>(&'a [u8]);
 
 impl fmt::Display for Separator<'_> {
     fn fmt<W: fmt::Write>(&self, f: &mut fmt::Formatter<W>) -> fmt::Result {
-        // where there is no bar, none is halved, and no room is cleared for it
-        if self.0.contains(&b'|') {
-            write_halved(f, self.0)
-        } else {
-            write_separator(f, self.0)
-        }
+        let mut scratch = [0; TEMPLATE_LIMIT];
+        let size = halve(self.0, b'|', &mut scratch).unwrap_or(0);
+        let Some(Ok(read)) = scratch.get(..size).map(|bytes| parse_template(bytes)) else {
+            return Ok(());
+        };
+        let BindPowerPair { left, right } = read.bind_power;
+        write!(f, "{left}/{right}/{}/", Capture(read.max_capture))?;
+        write_parted(f, ',', read.outputs().map(Plain))
     }
-}
-
-// In room for the longest template.
-fn write_halved<W: fmt::Write>(f: &mut fmt::Formatter<W>, typed: &[u8]) -> fmt::Result {
-    let mut scratch = [0; TEMPLATE_LIMIT];
-    let size = halve(typed, b'|', &mut scratch).unwrap_or(0);
-    write_separator(f, scratch.get(..size).unwrap_or(&[]))
-}
-
-fn write_separator<W: fmt::Write>(f: &mut fmt::Formatter<W>, bytes: &[u8]) -> fmt::Result {
-    let Ok(read) = parse_template(bytes) else {
-        return Ok(());
-    };
-    let BindPowerPair { left, right } = read.bind_power;
-    write!(f, "{left}/{right}/{}/", Capture(read.max_capture))?;
-    write_parted(f, ',', read.outputs().map(Plain))
 }
 
 // The range and the powers of a repeat.

@@ -102,9 +102,12 @@ struct Plain<'a>(SubFormatterConst<'a>);
 impl fmt::Display for Plain<'_> {
     fn fmt<W: fmt::Write>(&self, f: &mut fmt::Formatter<W>) -> fmt::Result {
         match self.0 {
-            // where there is no mark, none is halved, and no room is cleared for it
-            SubFormatterConst::String(text) if text.contains(&b'$') => write_halved_text(f, text),
-            SubFormatterConst::String(text) => write!(f, "text {}", Quoted(text)),
+            SubFormatterConst::String(text) => {
+                // as long as the longest template
+                let mut scratch = [0; TEMPLATE_LIMIT];
+                let size = halve(text, b'$', &mut scratch).unwrap_or(0);
+                write!(f, "text {}", Quoted(scratch.get(..size).unwrap_or(&[])))
+            }
             SubFormatterConst::Single {
                 path,
                 index,
@@ -121,13 +124,6 @@ impl fmt::Display for Plain<'_> {
             SubFormatterConst::Repeat { .. } => Ok(()),
         }
     }
-}
-
-// A text with marks, halved in room for the longest template.
-fn write_halved_text<W: fmt::Write>(f: &mut fmt::Formatter<W>, text: &[u8]) -> fmt::Result {
-    let mut scratch = [0; TEMPLATE_LIMIT];
-    let size = halve(text, b'$', &mut scratch).unwrap_or(0);
-    write!(f, "text {}", Quoted(scratch.get(..size).unwrap_or(&[])))
 }
 
 // The way to a child: the steps down, and the index there.
@@ -162,33 +158,21 @@ impl fmt::Display for Separator<'_> {
         }
         let side = self.side;
         write!(f, "\n      {side} separator: ")?;
-        if self.typed.contains(&b'|') {
-            write_halved_separator(f, self.typed)
-        } else {
-            write_separator(f, self.typed)
+        // as long as the longest template
+        let mut scratch = [0; TEMPLATE_LIMIT];
+        let size = halve(self.typed, b'|', &mut scratch).unwrap_or(0);
+        let Ok(read) = parse_template(scratch.get(..size).unwrap_or(&[])) else {
+            return Ok(());
+        };
+        // `answers` parts its lists alike, with marks of one byte and another word for none
+        let mut none = true;
+        for piece in read.outputs() {
+            if !none {
+                f.write_str(", ")?;
+            }
+            write!(f, "{}", Plain(piece))?;
+            none = false;
         }
+        if none { f.write_str("nothing") } else { Ok(()) }
     }
-}
-
-// A separator with bars, halved in room for the longest template.
-fn write_halved_separator<W: fmt::Write>(f: &mut fmt::Formatter<W>, typed: &[u8]) -> fmt::Result {
-    let mut scratch = [0; TEMPLATE_LIMIT];
-    let size = halve(typed, b'|', &mut scratch).unwrap_or(0);
-    write_separator(f, scratch.get(..size).unwrap_or(&[]))
-}
-
-fn write_separator<W: fmt::Write>(f: &mut fmt::Formatter<W>, bytes: &[u8]) -> fmt::Result {
-    let Ok(read) = parse_template(bytes) else {
-        return Ok(());
-    };
-    // `answers` parts its lists alike, with marks of one byte and another word for none
-    let mut none = true;
-    for piece in read.outputs() {
-        if !none {
-            f.write_str(", ")?;
-        }
-        write!(f, "{}", Plain(piece))?;
-        none = false;
-    }
-    if none { f.write_str("nothing") } else { Ok(()) }
 }
