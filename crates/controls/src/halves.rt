@@ -29,7 +29,8 @@ impl<'a> Iterator for Halved<'a> {
     fn next(&mut self) -> Option<u8> {
         let (first, rest) = self.text.split_first()?;
         self.text = match rest {
-            [second, behind @ ..] if *first == self.mark && *second == self.mark => behind,
+            _ if *first != self.mark => rest,
+            [second, behind @ ..] if *second == self.mark => behind,
             _ => rest,
         };
         Some(*first)

@@ -11,7 +11,7 @@ pub(crate) fn text(typed: &[u8], pen: &mut Pen<'_>) -> Result<(), Full>
     ensures { Wrote pen.old pen.new (letters (halve 36 typed.now)) result }
 {
     for b in Halved::of(typed, b'$') {
-        pen.put_all(&[Opcode::Byte.number(), b])?;
+        pen.put_both(Opcode::Byte.number(), b)?;
     }
     Ok(())
 }

@@ -99,8 +99,9 @@ fn encode_template(template: &[u8], out: &mut [u8]) -> Result<usize, EncodeError
     // of the longest sizes, since nothing is taken from the heap
     let mut scratch = [0; TEMPLATE_LIMIT];
     let mut code = [0; CODE_LIMIT];
-    let size = write_to(&read.parts, &mut scratch, &mut code)
-        .or(Err(EncodeError::Code(CodeError::CodeTooLong)))?;
+    let size = write_to(&read.parts, &mut scratch, &mut code).or(Err(EncodeError::Code(
+        CodeError::CodeTooLong,
+    )))?;
     // from the array itself and not by way of the pen, since the compiler then knows that the two lie apart
     deliver(&code[..size], out).ok_or(EncodeError::Code(CodeError::BufferTooShort))
 }

@@ -4,7 +4,7 @@ use Rattle.std.proofs.str.Laws.{order}
 use Rattle.std.proofs.lemmas.Bool.{le-leb}
 use Rattle.std.proofs.lemmas.Bool.Decides.{nat_tests}
 use Rattle.std.proofs.lemmas.Result.{err_from_is_err_and}
-use Rattle.std.proofs.lemmas.List.{length-take, take_all, take_more_set, drop-set-lt, drop_all, drop-drop, append-nil, take-append-le}
+use Rattle.std.proofs.lemmas.List.{length-set, length-take, take_all, take_more_set, drop-set-lt, drop_all, drop-drop, append-nil, take-append-le}
 use Rattle.std.proofs.Math.Seq.{take-append-add}
 use Rattle.pen.specs.Pen.{Page, writes, page, Wrote}
 use Rattle.pen.specs.declared.writing.Full.{Full}
@@ -97,6 +97,18 @@ module _ (l : List ℕ) (at : ℕ) (b : ℕ) where
 
   pub byte_room : at < length l → true ≡ leb 1 (length (drop at l))
   byte_room h = grind (arith, nat_tests, length-drop at l)
+
+-- ---- two bytes at once
+module _ (l : List ℕ) (at : ℕ) (a b : ℕ) where
+  pub pair_page : at + 2 ≤ length l → ◌≡◌ {A = Page} (record { written = take (at + 2) (set (set l at a) (at + 1) b); rest = drop (at + 2) (set (set l at a) (at + 1) b) }) (writes (a ∷ b ∷ []) (record { written = take at l; rest = drop at l }))
+  pair_page h =
+      let two : at + 2 ≡ at + 1 + 1 = omega arith in
+      let first = byte_page l at a (omega arith) in
+      let second = byte_page (set l at a) (at + 1) b (omega (arith, length-set l at a)) in
+      rw two (second ∙ ap (writes (b ∷ [])) first ∙ writes_more (record { written = take at l; rest = drop at l }) (a ∷ []) (b ∷ []))
+
+  pub pair_room : at + 2 ≤ length l → true ≡ leb 2 (length (drop at l))
+  pair_room h = grind (arith, nat_tests, length-drop at l)
 
 same-written : (g : Page) → g ≡ writes [] g
 same-written g =

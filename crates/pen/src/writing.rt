@@ -45,6 +45,22 @@ impl<'a> Pen<'a> {
         Ok(())
     }
 
+    // Writes two bytes behind the others, or as many as there is room for. Both go by one look at the place.
+    pub fn put_both(&mut self, first: u8, second: u8) -> Result<(), Full>
+        ensures { Wrote self.old self.new (first ∷ second ∷ []) result }
+    {
+        let at = self.at;
+        let end = at + 2;
+        if end > self.out.len() {
+            self.put(first)?;
+            return self.put(second);
+        }
+        self.out[at] = first;
+        self.out[at + 1] = second;
+        self.at = end;
+        Ok(())
+    }
+
     // Writes bytes behind the others, one by one, as far as there is room.
     pub fn put_all(&mut self, bytes: &[u8]) -> Result<(), Full>
         ensures { Wrote self.old self.new bytes.now result }
