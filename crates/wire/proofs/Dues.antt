@@ -24,7 +24,7 @@ due-first [] = refl
 due-first (c ∷ cs) = refl
 
 -- ---- a command by its operands and by the place behind it
-abbrev left : List ℕ → Command × ℕ → Got Command
+abbrev pub left : List ℕ → Command × ℕ → Got Command
 left cs p = Some (p.0, drop p.1 cs)
 
 arm : {X : Type 0} (m : Got X) (a : Option X) (rest : List ℕ) (G : X × List ℕ → Got Command) (F : X → Option Command) (n : ℕ) (L : List ℕ)
@@ -36,7 +36,7 @@ either : (t : Bool) (x y : Got Command) (u v : Option (Command × ℕ)) (L : Lis
 either true x y u v L p q = p
 either false x y u v L p q = q
 
-by_place : (cs : List ℕ) → command_first cs ≡ on_some (command_at 0 cs) (left cs)
+pub by_place : (cs : List ℕ) → command_first cs ≡ on_some (command_at 0 cs) (left cs)
 by_place [] = refl
 by_place (o ∷ cs) =
     either (eqb o 0) _ _ _ _ (o ∷ cs) refl

@@ -1,4 +1,4 @@
-ghost use Rattle.std.specs.Prelude.{◌≡◌, ◌<◌, ◌≤◌, ◌==◌, length, IfSome, IfNone};
+ghost use Rattle.std.specs.Prelude.{◌≡◌, ◌<◌, ◌≤◌, ◌==◌, length, drop, IfSome, IfNone};
 ghost use Rattle.std.specs.Iterator.{YieldsFirst, item_count};
 ghost use Rattle.codes.specs.Decode.{byte_at, word_at, capture_at};
 ghost use Rattle.wire.specs.Ahead.{ahead, past};
@@ -22,6 +22,16 @@ impl<'a> Commands<'a> {
         ensures commands { ahead_of result ≡ ahead code.now 0 }
     {
         Commands { rest: code }
+    }
+
+    // The commands of a code from a place on; none, if it has no byte there.
+    pub fn resume(code: &'a [u8], at: usize) -> Commands<'a>
+        ensures bytes { bytes_of result ≡ drop at code.now }
+        ensures commands { ahead_of result ≡ ahead code.now at }
+    {
+        Commands {
+            rest: code.get(at..).unwrap_or_default(),
+        }
     }
 
     // Whether no byte is left.
