@@ -2,6 +2,7 @@
 use Rattle.std.specs.Prelude.{◌≡◌, ℕ, ◌+◌, cond, List, [], ◌∷◌, ◌++◌, take, drop, Ok, Err, Result, nat_le, nat_lt}
 use Rattle.lines.specs.Cut.{visit_limit, depth_limit}
 use Rattle.lines.specs.Events.{Event, visit, byte, missing}
+use Rattle.lines.specs.declared.answer.Printed.{Printed}
 use Rattle.lines.specs.declared.error.LineError.{LineError}
 use Rattle.lines.specs.declared.error.LineError.TheVariants.{MissingChild, TooDeep, TooManyVisits, OutputFull}
 use Rattle.moves.specs.declared.writing.LinePen.{LinePen}
@@ -29,8 +30,15 @@ fresh b l = record { buffer = b; page = blank l; visits = 0 }
 abbrev pub resumed : ℕ → ℕ → ℕ → List ℕ → State
 resumed b at n l = record { buffer = b; page = behind at l; visits = n }
 
+-- behind what a print has printed so far into a buffer with these bytes
+abbrev pub standing : ℕ → List ℕ → Printed → State
+standing b l p = resumed b p.count p.visits l
+
+abbrev pub ended : State → Result (Unit {0}) LineError → Outcome
+ended s r = record { state = s; end = r }
+
 abbrev pub outcome : LinePen → Result (Unit {0}) LineError → Outcome
-outcome p r = record { state = state p; end = r }
+outcome p r = ended (state p) r
 
 abbrev pub done : State → Outcome
 done s = record { state = s; end = Ok tt }
@@ -49,6 +57,10 @@ then o k = go o.state o.end k
 abbrev pub inked : ℕ → State → List ℕ → Outcome
 inked b s [] = refused OutputFull s
 inked b s (x ∷ rest) = done (record { buffer = s.buffer; page = record { written = s.page.written ++ b ∷ []; rest = rest }; visits = s.visits })
+
+-- how many visits there are with one more at a depth
+abbrev pub visited : ℕ → ℕ → Result ℕ LineError
+visited n d = cond (nat_lt n visit_limit) (cond (nat_le d depth_limit) (Ok (n + 1)) (Err TooDeep)) (Err TooManyVisits)
 
 -- one event: a visit is counted, a byte is written
 abbrev pub one : Event → State → Outcome

@@ -1,12 +1,7 @@
 ghost use Rattle.std.specs.Prelude.{◌≤◌, length};
 
+use crate::visits::visited;
 use lines::{LineError, Printed};
-
-// The visits of one print.
-const VISIT_LIMIT: usize = 65535;
-
-// How deep visits may be nested.
-const DEPTH_LIMIT: usize = 128;
 
 // Writes a line into a buffer, and counts the visits.
 // It holds the buffer itself, and no `pen::Pen`: of a reference in a struct within a struct a proof does not learn what it leaves behind.
@@ -87,13 +82,7 @@ impl<'a> LinePen<'a> {
         ensures within { OnOk result (depth ≤ depth_limit) }
         ensures counted { (t : ℕ) → outcome self.new result ≡ run (visit t depth ∷ []) (state self.old) }
     {
-        if self.visits >= VISIT_LIMIT {
-            return Err(LineError::TooManyVisits);
-        }
-        if depth > DEPTH_LIMIT {
-            return Err(LineError::TooDeep);
-        }
-        self.visits += 1;
+        self.visits = visited(self.visits, depth)?;
         Ok(())
     }
 }
