@@ -6,4 +6,4 @@ use Rattle.templates.proofs.scan.last_byte.Goals as goal
 pub returns-clause-value : goal.returns-clause-value
 returns-clause-value c =
     let xs = c.args.text.now in
-    found_last c.args.mark xs c.rposition.result (search (rules, chains))
+    found_last c.args.mark xs _ (search (rules, chains))
